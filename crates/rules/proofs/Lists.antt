@@ -1,0 +1,69 @@
+-- Laws of places of a function and of a list, and of what holds of each element.
+use Prim.Native.Nat.{ℕ, zero, suc, _≤_, _<_}
+use native.Mathlib.Omega.{arith}
+use mathlib.Core.Bool.{Bool, true}
+use mathlib.Core.List.{List, [], _∷_, _++_, map}
+use mathlib.Core.Path.{_≡_, refl}
+use mathlib.Core.Logic.{_≢_}
+use lib.ListN.{length, getD}
+use lib.Dec.{eqb}
+use borrow.Author.Tests.{eqb-true, eqb-false, eq-eqb}
+use Rattle.rules.specs.Lists.{put, removed, keep, All}
+use Rattle.rules.proofs.Tests.{cond-cases}
+
+module _ {A : Type 0} where
+  pub put-cases : (P : A → Type 0) (f : ℕ → A) (i : ℕ) (x : A) (j : ℕ) → (i ≡ j → P x) → (i ≢ j → P (f j)) → P (put f i x j)
+  unfolding put
+  put-cases P f i x j g h = cond-cases P (eqb i j) x (f j) (λ e. g (eqb-true i j e)) (λ e. h (eqb-false i j e))
+
+  pub put-same : (f : ℕ → A) (i : ℕ) (x : A) → put f i x i ≡ x
+  unfolding put
+  put-same f i x = rw (eq-eqb i i refl)
+
+  pub All-map : {P Q : A → Type 0} → ((x : A) → P x → Q x) → (xs : List A) → All P xs → All Q xs
+  All-map f [] h = tt
+  All-map f (x ∷ xs) h = (f x (h .0), All-map f xs (h .1))
+
+  pub All-map₂ : {P Q R : A → Type 0} → ((x : A) → P x → Q x → R x) → (xs : List A) → All P xs → All Q xs → All R xs
+  All-map₂ f [] h k = tt
+  All-map₂ f (x ∷ xs) h k = (f x (h .0) (k .0), All-map₂ f xs (h .1) (k .1))
+
+  pub All-append : (P : A → Type 0) (xs ys : List A) → All P xs → All P ys → All P (xs ++ ys)
+  All-append P [] ys h k = k
+  All-append P (x ∷ xs) ys h k = (h .0, All-append P xs ys (h .1) k)
+
+  pub All-removed : (P : A → Type 0) (i : ℕ) (xs : List A) → All P xs → All P (removed i xs)
+  unfolding removed
+  All-removed P zero [] h = tt
+  All-removed P (suc i) [] h = tt
+  All-removed P zero (x ∷ xs) h = h .1
+  All-removed P (suc i) (x ∷ xs) h = (h .0, All-removed P i xs (h .1))
+
+  pub All-at : (P : A → Type 0) (xs : List A) (i : ℕ) (d : A) → i < length xs → All P xs → P (getD xs i d)
+  All-at P [] i d l h = absurd (omega arith)
+  All-at P (x ∷ xs) zero d l h = h .0
+  All-at P (x ∷ xs) (suc i) d l h = All-at P xs i d (omega arith) (h .1)
+
+  pub All-keep : (P : A → Type 0) (f : A → Bool) (xs : List A) → All P xs → All (λ x. P x × (f x ≡ true)) (keep f xs)
+  unfolding keep
+  All-keep P f [] h = tt
+  All-keep P f (x ∷ xs) h = cond-cases (All (λ y. P y × (f y ≡ true))) (f x) (x ∷ keep f xs) (keep f xs)
+      (λ e. ((h .0, e), All-keep P f xs (h .1))) (λ e. All-keep P f xs (h .1))
+
+  -- each element is changed by g
+  pub All-each : (P Q : A → Type 0) (g : A → A) → ((x : A) → P x → Q (g x)) → (xs : List A) → All P xs → All Q (map g xs)
+  All-each P Q g f [] h = tt
+  All-each P Q g f (x ∷ xs) h = (f x (h .0), All-each P Q g f xs (h .1))
+
+  pub removed-short : (i : ℕ) (xs : List A) → length (removed i xs) ≤ length xs
+  unfolding removed
+  removed-short zero [] = omega arith
+  removed-short (suc i) [] = omega arith
+  removed-short zero (x ∷ xs) = omega arith
+  removed-short (suc i) (x ∷ xs) = let h = removed-short i xs in omega arith
+
+  pub keep-short : (f : A → Bool) (xs : List A) → length (keep f xs) ≤ length xs
+  unfolding keep
+  keep-short f [] = omega arith
+  keep-short f (x ∷ xs) = let h = keep-short f xs in
+      cond-cases (λ l. length l ≤ suc (length xs)) (f x) (x ∷ keep f xs) (keep f xs) (λ _. omega arith) (λ _. omega arith)

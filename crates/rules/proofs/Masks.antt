@@ -1,0 +1,78 @@
+-- The members of a mask.
+use Prim.Native.Nat.{ℕ, zero, suc, _+_, _-_, _*_, _/_, _%_, _^_, _≤_, _<_, min, max}
+use native.Mathlib.Omega.{arith}
+use native.Mathlib.Nat.{div-self, div-eq-of-lt, pow-suc, mul-mod-right}
+use mathlib.Core.Bool.{Bool, true, false, cond, not, _&&_, _||_, true≢false}
+use mathlib.Core.Path.{_≡_, refl, sym, _∙_, ap, subst}
+use mathlib.Core.Logic.{_≢_}
+use lib.Dec.{leb, ltb, eqb}
+use lib.Pow.{pow-pos, pow-lt, pow-add, shl-shr, ones-lt, ones-split, high}
+use lib.Bits.{bitAnd, bitOr, bitXor, or-shr, or-mod, and-shr, and-mod, xor-shr, xor-mod, shifted-even, or-lt, and-lt, xor-lt}
+use borrow.Author.Tests.{eqb-true, eqb-false, eq-eqb, ne-eqb, ltb-true, ltb-false}
+use Rattle.rules.specs.Masks.{has, only, every, both, without}
+use Rattle.rules.proofs.Tests.{test, or-i}
+
+-- a digit is 0 or 1
+digit : (P : ℕ → Type 0) → P 0 → P 1 → (n : ℕ) → P (n % 2)
+digit P p q n = test (eqb (n % 2) 0)
+    (λ e. subst P (sym (eqb-true (n % 2) 0 e)) p)
+    (λ e. let d = eqb-false (n % 2) 0 e in let one : n % 2 ≡ 1 = omega arith in subst P (sym one) q)
+
+pub has-both : (a b k : ℕ) → has (both a b) k ≡ (has a k || has b k)
+unfolding has both
+has-both a b k = rw (or-shr a b k) (rw (or-mod (a / 2 ^ k) (b / 2 ^ k) 1)
+    (digit (λ x. eqb (bitOr x (b / 2 ^ k % 2)) 1 ≡ (eqb x 1 || eqb (b / 2 ^ k % 2) 1))
+    (digit (λ y. eqb (bitOr 0 y) 1 ≡ (eqb 0 1 || eqb y 1)) refl refl (b / 2 ^ k))
+    (digit (λ y. eqb (bitOr 1 y) 1 ≡ (eqb 1 1 || eqb y 1)) refl refl (b / 2 ^ k)) (a / 2 ^ k)))
+
+pub has-without : (a b k : ℕ) → has (without a b) k ≡ (has a k && not (has b k))
+unfolding has without
+has-without a b k = rw (xor-shr a (bitAnd a b) k) (rw (and-shr a b k) (rw (xor-mod (a / 2 ^ k) (bitAnd (a / 2 ^ k) (b / 2 ^ k)) 1)
+    (rw (and-mod (a / 2 ^ k) (b / 2 ^ k) 1)
+    (digit (λ x. eqb (bitXor x (bitAnd x (b / 2 ^ k % 2))) 1 ≡ (eqb x 1 && not (eqb (b / 2 ^ k % 2) 1)))
+    (digit (λ y. eqb (bitXor 0 (bitAnd 0 y)) 1 ≡ (eqb 0 1 && not (eqb y 1))) refl refl (b / 2 ^ k))
+    (digit (λ y. eqb (bitXor 1 (bitAnd 1 y)) 1 ≡ (eqb 1 1 && not (eqb y 1))) refl refl (b / 2 ^ k)) (a / 2 ^ k)))))
+
+pub has-only : (k : ℕ) → has (only k) k ≡ true
+unfolding has only
+has-only k = rw (div-self (pow-pos k))
+
+pub has-only-other : (q k : ℕ) → q ≢ k → has (only q) k ≡ false
+unfolding has only
+has-only-other q k d = test (ltb q k)
+    (λ e. rw (div-eq-of-lt (pow-lt (ltb-true q k e))))
+    (λ e. let h = ltb-false q k e in
+    let g : q ≡ suc (q - k - 1) + k = omega arith in
+    rw g (rw (pow-add 2 (suc (q - k - 1)) k) (rw (shl-shr (2 ^ suc (q - k - 1)) k) (rw (pow-suc 2 (q - k - 1)) (let z : 2 ^ (q - k - 1) * 2 % 2 ≡ 0 = omega arith in rw z)))))
+
+pub has-both-l : (a b k : ℕ) → has a k ≡ true → has (both a b) k ≡ true
+has-both-l a b k h = rw (has-both a b k, h)
+
+pub has-both-r : (a b k : ℕ) → has b k ≡ true → has (both a b) k ≡ true
+has-both-r a b k h = rw (has-both a b k, h) (or-i {a = has a k} (λ _. refl))
+
+pub has-without-other : (a q k : ℕ) → q ≢ k → has a k ≡ true → has (without a (only q)) k ≡ true
+has-without-other a q k d h = rw (has-without a (only q) k, h, has-only-other q k d)
+
+-- masks of the cards that are there
+pub only-lt : (n k : ℕ) → k < n → only k < 2 ^ n
+unfolding only
+only-lt n k l = pow-lt l
+
+pub both-lt : (n a b : ℕ) → a < 2 ^ n → b < 2 ^ n → both a b < 2 ^ n
+unfolding both
+both-lt n a b p q = or-lt n a b p q
+
+pub without-lt : (n a b : ℕ) → a < 2 ^ n → b < 2 ^ n → without a b < 2 ^ n
+unfolding without
+without-lt n a b p q = xor-lt n a (bitAnd a b) p (and-lt n a b p q)
+
+pub every-lt : (n : ℕ) → every n < 2 ^ n
+unfolding every
+every-lt n = ones-lt n
+
+pub has-every : (n k : ℕ) → k < n → has (every n) k ≡ true
+unfolding has every
+has-every n k l =
+    let e : n ≡ suc (n - k - 1) + k = omega arith in
+    rw e (rw (ones-split (suc (n - k - 1)) k) (rw (high (2 ^ suc (n - k - 1) - 1) k (ones-lt k)) (let p = pow-pos (n - k - 1) in let z : (2 ^ suc (n - k - 1) - 1) % 2 ≡ 1 = omega arith in rw z)))

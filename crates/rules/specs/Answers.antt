@@ -1,0 +1,74 @@
+-- "Numbers the engine says no with": the paper's refusal number and value for each answer.
+use Prim.Native.Nat.{ℕ}
+use mathlib.Core.Bool.{Bool, cond}
+use mathlib.Core.List.{List, [], _∷_}
+use Rattle.rules.specs.Chassis.{Chassis}
+use Rattle.rules.specs.declared.kinds.Answer.{Answer}
+use Rattle.rules.specs.declared.kinds.Answer.the-variants.{Done, Refused}
+use Rattle.rules.specs.declared.kinds.Refusal.{Refusal}
+use Rattle.rules.specs.declared.kinds.Refusal.the-variants.{
+  NoSuchCard,
+  NoSuchBlock,
+  NoRight,
+  NoSuchAsk,
+  NoSuchKind,
+  StrangerInMask,
+  LineFull,
+  LineEmpty,
+  BlockHeld,
+  PoolFull,
+  NoSuchMessage,
+  NumbersSpent,
+  Impossible,
+  NoSuchSize,
+  IllFormed,
+}
+
+unfoldable pub refusalNo : Refusal → ℕ
+refusalNo NoSuchCard = 1
+refusalNo NoSuchBlock = 2
+refusalNo NoRight = 3
+refusalNo NoSuchAsk = 4
+refusalNo NoSuchKind = 5
+refusalNo StrangerInMask = 6
+refusalNo LineFull = 7
+refusalNo LineEmpty = 8
+refusalNo BlockHeld = 9
+refusalNo PoolFull = 10
+refusalNo NoSuchMessage = 11
+refusalNo NumbersSpent = 12
+refusalNo Impossible = 13
+refusalNo NoSuchSize = 14
+refusalNo IllFormed = 15
+
+-- "the refusal or 0"
+unfoldable pub refusalOf : Answer → ℕ
+refusalOf (Done v) = 0
+refusalOf (Refused r) = refusalNo r
+
+-- "the value (a load's, an outcome, else 0)"; "An engine refusal answers value 0"
+unfoldable pub valueOf : Answer → ℕ
+valueOf (Done v) = v
+valueOf (Refused r) = 0
+
+-- an event's answer, and the chassis after it
+pub record Outcome : Type 0 where
+  pub answer : Answer
+  pub after : Chassis
+
+abbrev pub outcome : Answer → Chassis → Outcome
+outcome a c = record { answer = a; after = c }
+
+-- a refusal, and when it is given
+pub record Reason : Type 0 where
+  pub why : Refusal
+  pub holds : Bool
+
+infix 10 _if_
+abbrev pub _if_ : Refusal → Bool → Reason
+r if t = record { why = r; holds = t }
+
+-- the first reason that holds refuses "and keeps the state"; where none does, the event is done
+unfoldable pub refusedBy : Chassis → List Reason → Outcome → Outcome
+refusedBy c [] done = done
+refusedBy c (r ∷ rs) done = cond (r .holds) (outcome (Refused (r .why)) c) (refusedBy c rs done)

@@ -1,0 +1,175 @@
+-- "The events": for each, the reasons to refuse it in the paper's order, and what it does where none holds.
+use Prim.Native.Nat.{ℕ}
+use mathlib.Core.Bool.{Bool, cond, not, _&&_}
+use mathlib.Core.List.{List, [], _∷_, _++_}
+use lib.ListN.{length, getD}
+use lib.Dec.{eqb, leb}
+use Rattle.rules.specs.Lists.{put, removed, keep}
+use Rattle.rules.specs.Masks.{only, without, inside}
+use Rattle.rules.specs.Numbers.{home, room, gets, putx, none, taken, stale}
+use Rattle.rules.specs.Table.{loads, stores, drops, waits, asked, filledTo}
+use Rattle.rules.specs.Chassis.{
+  Block,
+  Chassis,
+  cellOf,
+  stateOf,
+  idle,
+  fresh,
+  goes,
+  withCell,
+  changed,
+  cellChanged,
+  poolChanged,
+}
+use Rattle.rules.specs.Answers.{Outcome, outcome, Reason, _if_, refusedBy}
+use Rattle.rules.specs.Order.{order, orderReasons}
+use Rattle.rules.specs.Formed.{sizes, wellFormed}
+use Rattle.rules.specs.declared.kinds.Cell.{Cell}
+use Rattle.rules.specs.declared.kinds.Request.{Request}
+use Rattle.rules.specs.declared.kinds.Message.{Message}
+use Rattle.rules.specs.declared.kinds.Answer.the-variants.{Done}
+use Rattle.rules.specs.declared.kinds.Refusal.the-variants.{
+  NoSuchCard,
+  NoSuchBlock,
+  NoRight,
+  NoSuchAsk,
+  NoSuchKind,
+  StrangerInMask,
+  LineFull,
+  PoolFull,
+  NoSuchMessage,
+  NoSuchSize,
+  IllFormed,
+}
+use Rattle.rules.specs.declared.kinds.Event.{Event}
+use Rattle.rules.specs.declared.kinds.Event.the-variants.{
+  Load,
+  Store,
+  Drop,
+  Ask,
+  Order,
+  Deliver,
+  Copy,
+  Rejoin,
+}
+
+-- Refusals
+
+-- 1 and 2: "no such card; no such block"
+unfoldable pub noCard : Chassis → ℕ → Reason
+noCard c k = NoSuchCard if leb (c .cards) k
+
+unfoldable pub noBlock : Chassis → ℕ → Reason
+noBlock c b = NoSuchBlock if leb (c .blocks) b
+
+-- "Load, Store, Drop: 1, 2, 3", where 3 is "the state gives no right to this load, store or drop"
+unfoldable pub rightReasons : Chassis → ℕ → ℕ → (ℕ → Bool) → List Reason
+rightReasons c k b right = noCard c k ∷ noBlock c b ∷ (NoRight if not (right (stateOf c k b))) ∷ []
+
+-- 11: "position not below the pool's count"
+unfoldable pub noMessage : Chassis → ℕ → Reason
+noMessage c i = NoSuchMessage if leb (length (c .pool)) i
+
+unfoldable pub reasons : Chassis → Event → List Reason
+reasons c (Load k b) = rightReasons c k b loads
+reasons c (Store k b v) = rightReasons c k b stores
+reasons c (Drop k b) = rightReasons c k b drops
+-- "Ask: 1, 2, 5, 6, 4, 7"
+reasons c (Ask k b kind mask) =
+    noCard c k ∷
+    noBlock c b ∷
+    (NoSuchKind if not (leb gets kind && leb kind putx)) ∷
+    (StrangerInMask if not (inside (c .cards) mask)) ∷
+    (NoSuchAsk if eqb (asked kind (stateOf c k b)) none) ∷
+    (LineFull if leb room (length (c .line))) ∷ []
+reasons c Order = orderReasons c (c .line)
+-- "Deliver: 11"
+reasons c (Deliver i) = noMessage c i ∷ []
+-- "Copy: 11, 10"
+reasons c (Copy i) = noMessage c i ∷ (PoolFull if leb room (length (c .pool))) ∷ []
+-- "Rejoin: 1"
+reasons c (Rejoin k) = noCard c k ∷ []
+
+-- Store
+
+abbrev pub storing : ℕ → Cell → Cell
+storing v x = record { state = x .state; value = v; awaits = x .awaits }
+
+-- Ask
+
+-- "with retry 0"
+abbrev pub request : ℕ → ℕ → ℕ → ℕ → Request
+request k b kind mask = record { card = k; block = b; kind = kind; mask = mask; retry = record { 0 = 0 } }
+
+-- "the cell moves by the table; the request joins the line's tail"
+unfoldable pub ask : Chassis → ℕ → ℕ → ℕ → ℕ → Chassis
+ask c k b kind mask = changed c b (withCell (c .block b) k (goes (asked kind (stateOf c k b)) (cellOf c k b)))
+    (c .line ++ request k b kind mask ∷ []) (c .pool) (c .last .0)
+
+-- Deliver and Copy
+
+-- the message at a position; none there is all 0, and is refused before it is looked at
+abbrev pub messageAt : Chassis → ℕ → Message
+messageAt c i = getD (c .pool) i (record { sender = 0; receiver = 0; block = 0; value = 0; number = record { 0 = 0 } })
+
+-- "the receiver is in 6, 7 or 8 for that block and awaits that number"
+unfoldable pub live : Block → Message → Bool
+live B m = let x = B .cell (m .receiver) in waits (x .state) && eqb (x .awaits .0) (m .number .0)
+
+-- "it takes the value and goes to 1, 2 or 2"
+abbrev pub takes : Message → Cell → Cell
+takes m x = record { state = filledTo (x .state); value = m .value; awaits = record { 0 = 0 } }
+
+-- "(outcome 1). Otherwise the message is stale (outcome 2). It leaves the pool either way; later ones close up."
+unfoldable pub deliver : Chassis → ℕ → Message → Outcome
+deliver c i m =
+    let B = c .block (m .block) in
+    let rest = removed i (c .pool) in
+    cond (live B m)
+    (outcome (Done taken)
+    (changed c (m .block) (withCell B (m .receiver) (takes m (B .cell (m .receiver)))) (c .line) rest (c .last .0)))
+    (outcome (Done stale) (poolChanged c rest))
+
+-- Rejoin
+
+-- "its cells become I", "it leaves all sharer sets, blocks it owns go to home"; "Memory .. stay"
+unfoldable pub rejoinBlock : ℕ → Block → Block
+rejoinBlock k B = record {
+  memory = B .memory;
+  owner = cond (eqb (B .owner) k) home (B .owner);
+  sharers = without (B .sharers) (only k);
+  cell = put (B .cell) k idle;
+}
+
+-- "its requests leave the line (the rest close up)"; "pool and order number stay"
+unfoldable pub rejoin : Chassis → ℕ → Chassis
+rejoin c k = record {
+  cards = c .cards;
+  blocks = c .blocks;
+  block = λ b. rejoinBlock k (c .block b);
+  line = keep (λ r. not (eqb (r .card) k)) (c .line);
+  pool = c .pool;
+  last = c .last;
+}
+
+-- Every event
+
+unfoldable pub effect : Chassis → Event → Outcome
+effect c (Load k b) = outcome (Done (cellOf c k b .value)) c
+effect c (Store k b v) = outcome (Done 0) (cellChanged c k b (storing v (cellOf c k b)))
+-- "S becomes I, home is not told"
+effect c (Drop k b) = outcome (Done 0) (cellChanged c k b idle)
+effect c (Ask k b kind mask) = outcome (Done 0) (ask c k b kind mask)
+effect c Order = order c (c .line)
+effect c (Deliver i) = deliver c i (messageAt c i)
+-- "the message again, at the pool's tail"
+effect c (Copy i) = outcome (Done 0) (poolChanged c (c .pool ++ messageAt c i ∷ []))
+effect c (Rejoin k) = outcome (Done 0) (rejoin c k)
+
+-- "15 comes first wherever a state is handed in, so at every event but Start"
+unfoldable pub step : Chassis → Event → Outcome
+step c e = refusedBy c ((IllFormed if not (wellFormed c)) ∷ reasons c e) (effect c e)
+
+-- Start: 14 "outside 1 to 8 cards or 1 to 32 blocks; whatever refuses to make a state answers one of 0 cards and 0 blocks"
+unfoldable pub start : ℕ → ℕ → Outcome
+start cards blocks = refusedBy (fresh 0 0) ((NoSuchSize if not (sizes cards blocks)) ∷ []) (outcome (Done 0) (fresh cards blocks))

@@ -1,0 +1,97 @@
+-- The paper's numbers, by name. The refusals are the cases of `Refusal`, whose numbers are in Answers.
+use Prim.Native.Nat.{ℕ, _-_, _^_}
+
+-- "1 to 8 cards (0 up), 1 to 32 blocks (0 up)"
+abbrev pub mostCards : ℕ
+mostCards = 8
+
+abbrev pub mostBlocks : ℕ
+mostBlocks = 32
+
+-- "one home, written as 255 where a card number would stand"
+abbrev pub home : ℕ
+home = 255
+
+-- "one line (room 64)", "a pool (room 64)"
+abbrev pub room : ℕ
+room = 64
+
+-- "the last order number given: 0 at the start, 64 bits wide": the last that can be given
+abbrev pub lastNumber : ℕ
+lastNumber = 2 ^ 64 - 1
+
+-- "retry (0 to 3)"
+abbrev pub lastRetry : ℕ
+lastRetry = 3
+
+-- "kind 1 GETS, 2 GETX, 3 PUTX"
+abbrev pub gets : ℕ
+gets = 1
+
+abbrev pub getx : ℕ
+getx = 2
+
+abbrev pub putx : ℕ
+putx = 3
+
+-- the states of a cell
+abbrev pub I : ℕ
+I = 0
+
+abbrev pub S : ℕ
+S = 1
+
+abbrev pub M : ℕ
+M = 2
+
+abbrev pub IS-AD : ℕ
+IS-AD = 3
+
+abbrev pub IM-AD : ℕ
+IM-AD = 4
+
+abbrev pub SM-AD : ℕ
+SM-AD = 5
+
+abbrev pub IS-D : ℕ
+IS-D = 6
+
+abbrev pub IM-D : ℕ
+IM-D = 7
+
+abbrev pub SM-D : ℕ
+SM-D = 8
+
+abbrev pub MI-A : ℕ
+MI-A = 9
+
+abbrev pub II-A : ℕ
+II-A = 10
+
+-- how many states there are
+abbrev pub states : ℕ
+states = 11
+
+-- an empty place of the card state table
+abbrev pub none : ℕ
+none = 255
+
+-- the outcomes of Order
+abbrev pub granted : ℕ
+granted = 1
+
+abbrev pub tooSmall : ℕ
+tooSmall = 2
+
+abbrev pub putTaken : ℕ
+putTaken = 3
+
+abbrev pub putLapsed : ℕ
+putLapsed = 4
+
+-- the outcomes of Deliver
+abbrev pub taken : ℕ
+taken = 1
+
+abbrev pub stale : ℕ
+stale = 2

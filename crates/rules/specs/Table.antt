@@ -1,0 +1,138 @@
+-- "A card's cell": the eleven rows of the card state table, and the states that the rules name.
+use Prim.Native.Nat.{ℕ}
+use mathlib.Core.Bool.{Bool, true, false, cond}
+use mathlib.Core.List.{List, [], _∷_}
+use lib.ListN.{getD}
+use lib.Dec.{eqb}
+use Rattle.rules.specs.Tests.{oneOf}
+use Rattle.rules.specs.Numbers.{
+  S,
+  M,
+  IS-AD,
+  IM-AD,
+  SM-AD,
+  IS-D,
+  IM-D,
+  SM-D,
+  MI-A,
+  II-A,
+  none,
+}
+
+-- a row: the rights, where an ask of each kind leads, where a seen request leads
+pub record Row : Type 0 where
+  pub load : Bool
+  pub store : Bool
+  pub asksGets : ℕ
+  pub asksGetx : ℕ
+  pub asksPutx : ℕ
+  pub ownerSeesGets : ℕ
+  pub seesAnothersGetx : ℕ
+
+abbrev row : Bool → Bool → ℕ → ℕ → ℕ → ℕ → ℕ → Row
+row load store asksGets asksGetx asksPutx ownerSeesGets seesAnothersGetx = record {
+  load = load;
+  store = store;
+  asksGets = asksGets;
+  asksGetx = asksGetx;
+  asksPutx = asksPutx;
+  ownerSeesGets = ownerSeesGets;
+  seesAnothersGetx = seesAnothersGetx;
+}
+
+-- "An empty place means no right, or no move."
+abbrev ✓ : Bool
+✓ = true
+
+abbrev – : Bool
+– = false
+
+abbrev · : ℕ
+· = none
+
+-- Load, Store; where GETS, GETX, PUTX lead; sees GETS as owner, sees another's GETX
+unfoldable pub rows : List Row
+rows =
+    row – – 3 4 · · · ∷  -- 0 I
+    row ✓ – · 5 · · 0 ∷  -- 1 S
+    row ✓ ✓ · · 9 1 0 ∷  -- 2 M
+    row – – · · · · · ∷  -- 3 IS_AD
+    row – – · · · · · ∷  -- 4 IM_AD
+    row ✓ – · · · · 4 ∷  -- 5 SM_AD
+    row – – · · · · · ∷  -- 6 IS_D
+    row – – · · · · · ∷  -- 7 IM_D
+    row ✓ – · · · · · ∷  -- 8 SM_D
+    row ✓ ✓ · · · 10 10 ∷  -- 9 MI_A
+    row – – · · · · · ∷  -- 10 II_A
+    []
+
+unfoldable pub rowOf : ℕ → Row
+unfolding rows
+rowOf s = getD rows s (row – – · · · · ·)
+
+-- The columns
+
+unfoldable pub loads : ℕ → Bool
+unfolding rowOf
+loads s = rowOf s .load
+
+unfoldable pub stores : ℕ → Bool
+unfolding rowOf
+stores s = rowOf s .store
+
+-- where an ask of this kind leads, or none
+unfoldable pub asked : ℕ → ℕ → ℕ
+unfolding rowOf
+asked kind s = getD (none ∷ rowOf s .asksGets ∷ rowOf s .asksGetx ∷ rowOf s .asksPutx ∷ []) kind none
+
+-- where a state goes that is to move to t: nowhere, where t is none
+unfoldable pub moved : ℕ → ℕ → ℕ
+moved s t = cond (eqb t none) s t
+
+unfoldable pub seesGets : ℕ → ℕ
+unfolding rowOf moved
+seesGets s = moved s (rowOf s .ownerSeesGets)
+
+unfoldable pub seesGetx : ℕ → ℕ
+unfolding rowOf moved
+seesGetx s = moved s (rowOf s .seesAnothersGetx)
+
+-- States that the rules name
+
+-- Drop: "S becomes I"
+unfoldable pub drops : ℕ → Bool
+unfolding oneOf
+drops s = oneOf (S ∷ []) s
+
+-- "in 6, 7 or 8": data is on its way to the card
+unfoldable pub waits : ℕ → Bool
+unfolding oneOf
+waits s = oneOf (IS-D ∷ IM-D ∷ SM-D ∷ []) s
+
+-- "in states 1 and 5": a reader, which another's GETX moves, granted or not
+unfoldable pub reads : ℕ → Bool
+unfolding oneOf
+reads s = oneOf (S ∷ SM-AD ∷ []) s
+
+-- "in 2 or 9": an owner that can give its value away
+unfoldable pub gives : ℕ → Bool
+unfolding oneOf
+gives s = oneOf (M ∷ MI-A ∷ []) s
+
+-- "GETS .. from 3, GETX .. from 4 or 5, PUTX .. from 9 or 10"
+unfoldable pub comesFrom : ℕ → ℕ → Bool
+unfolding oneOf
+comesFrom kind s = oneOf (getD ([] ∷ (IS-AD ∷ []) ∷ (IM-AD ∷ SM-AD ∷ []) ∷ (MI-A ∷ II-A ∷ []) ∷ []) kind []) s
+
+-- "PUTX .. From 9": the put stands; from 10 it has lapsed
+unfoldable pub putStands : ℕ → Bool
+unfolding oneOf
+putStands s = oneOf (MI-A ∷ []) s
+
+-- a granted GETS: "q goes to 6"; a granted GETX: "q goes from 4 to 7 or from 5 to 8"
+unfoldable pub grantedTo : ℕ → ℕ
+grantedTo s = getD (none ∷ none ∷ none ∷ IS-D ∷ IM-D ∷ SM-D ∷ []) s none
+
+-- data comes to 6, 7 or 8: it "goes to 1, 2 or 2"
+unfoldable pub filledTo : ℕ → ℕ
+filledTo s = getD (none ∷ none ∷ none ∷ none ∷ none ∷ none ∷ S ∷ M ∷ M ∷ []) s none
