@@ -2,3 +2,15 @@ pub mod Tests
 pub mod Lists
 pub mod Masks
 pub mod Marked
+pub mod Board
+pub mod Invariant
+pub mod Table
+pub mod Blocks
+pub mod Holders
+pub mod Turns
+pub mod Refusals
+pub mod Steps
+pub mod Stores
+pub mod Formed
+pub mod Stays
+pub mod Demand

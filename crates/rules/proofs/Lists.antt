@@ -2,14 +2,14 @@
 use Prim.Native.Nat.{ℕ, zero, suc, _≤_, _<_}
 use native.Mathlib.Omega.{arith}
 use mathlib.Core.Bool.{Bool, true}
-use mathlib.Core.List.{List, [], _∷_, _++_, map}
+use mathlib.Core.List.{List, [], _∷_, _++_, map, List·Memᴰ, List·Memᴰ·head, List·Memᴰ·tail}
 use mathlib.Core.Path.{_≡_, refl}
 use mathlib.Core.Logic.{_≢_}
 use lib.ListN.{length, getD}
 use lib.Dec.{eqb}
 use borrow.Author.Tests.{eqb-true, eqb-false, eq-eqb}
 use Rattle.rules.specs.Lists.{put, removed, keep, All}
-use Rattle.rules.proofs.Tests.{cond-cases}
+use Rattle.rules.proofs.Tests.{clash, test, cond-cases}
 
 module _ {A : Type 0} where
   pub put-cases : (P : A → Type 0) (f : ℕ → A) (i : ℕ) (x : A) (j : ℕ) → (i ≡ j → P x) → (i ≢ j → P (f j)) → P (put f i x j)
@@ -50,10 +50,28 @@ module _ {A : Type 0} where
   All-keep P f (x ∷ xs) h = cond-cases (All (λ y. P y × (f y ≡ true))) (f x) (x ∷ keep f xs) (keep f xs)
       (λ e. ((h .0, e), All-keep P f xs (h .1))) (λ e. All-keep P f xs (h .1))
 
+  pub keep-all : (P : A → Type 0) (f : A → Bool) (xs : List A) → All P (keep f xs) → All (λ x. f x ≡ true → P x) xs
+  unfolding keep
+  keep-all P f [] h = tt
+  keep-all P f (x ∷ xs) h = test (f x)
+      (λ e. let h′ = rw e at h in ((λ _. h′ .0), keep-all P f xs (h′ .1)))
+      (λ e. ((λ e′. absurd (clash e′ e)), keep-all P f xs (rw e at h)))
+
+  pub all-of : (P : A → Type 0) → ((x : A) → P x) → (xs : List A) → All P xs
+  all-of P f [] = tt
+  all-of P f (x ∷ xs) = (f x, all-of P f xs)
+
   -- each element is changed by g
+  pub All-each-in : (P Q : A → Type 0) (g : A → A) (xs : List A) → ((x : A) → List·Memᴰ x xs → P x → Q (g x))
+      → All P xs → All Q (map g xs)
+  All-each-in P Q g [] f h = tt
+  All-each-in P Q g (x ∷ xs) f h = (
+    f x (List·Memᴰ·head refl) (h .0),
+    All-each-in P Q g xs (λ y m. f y (List·Memᴰ·tail m)) (h .1),
+  )
+
   pub All-each : (P Q : A → Type 0) (g : A → A) → ((x : A) → P x → Q (g x)) → (xs : List A) → All P xs → All Q (map g xs)
-  All-each P Q g f [] h = tt
-  All-each P Q g f (x ∷ xs) h = (f x (h .0), All-each P Q g f xs (h .1))
+  All-each P Q g f xs h = All-each-in P Q g xs (λ x _. f x) h
 
   pub removed-short : (i : ℕ) (xs : List A) → length (removed i xs) ≤ length xs
   unfolding removed

@@ -8,8 +8,8 @@ use mathlib.Core.Logic.{_≢_}
 use lib.Dec.{leb, ltb, eqb}
 use lib.Pow.{pow-pos, pow-lt, pow-add, shl-shr, ones-lt, ones-split, high}
 use lib.Bits.{bitAnd, bitOr, bitXor, or-shr, or-mod, and-shr, and-mod, xor-shr, xor-mod, shifted-even, or-lt, and-lt, xor-lt}
-use borrow.Author.Tests.{eqb-true, eqb-false, eq-eqb, ne-eqb, ltb-true, ltb-false}
-use Rattle.rules.specs.Masks.{has, only, every, both, without}
+use borrow.Author.Tests.{eqb-true, eqb-false, ltb-true, ltb-false, lt-ltb}
+use Rattle.rules.specs.Masks.{has, only, every, both, without, inside}
 use Rattle.rules.proofs.Tests.{test, or-i}
 
 -- a digit is 0 or 1
@@ -54,22 +54,29 @@ has-both-r a b k h = rw (has-both a b k, h) (or-i {a = has a k} (λ _. refl))
 pub has-without-other : (a q k : ℕ) → q ≢ k → has a k ≡ true → has (without a (only q)) k ≡ true
 has-without-other a q k d h = rw (has-without a (only q) k, h, has-only-other q k d)
 
--- masks of the cards that are there
-pub only-lt : (n k : ℕ) → k < n → only k < 2 ^ n
-unfolding only
-only-lt n k l = pow-lt l
+-- Masks of the cards that are there
 
-pub both-lt : (n a b : ℕ) → a < 2 ^ n → b < 2 ^ n → both a b < 2 ^ n
-unfolding both
-both-lt n a b p q = or-lt n a b p q
+pub only-inside : (n k : ℕ) → k < n → inside n (only k) ≡ true
+unfolding inside only
+only-inside n k l = lt-ltb (2 ^ k) (2 ^ n) (pow-lt l)
 
-pub without-lt : (n a b : ℕ) → a < 2 ^ n → b < 2 ^ n → without a b < 2 ^ n
-unfolding without
-without-lt n a b p q = xor-lt n a (bitAnd a b) p (and-lt n a b p q)
+pub both-inside : (n a b : ℕ) → inside n a ≡ true → inside n b ≡ true → inside n (both a b) ≡ true
+unfolding inside both
+both-inside n a b p q = lt-ltb (bitOr a b) (2 ^ n) (or-lt n a b (ltb-true a (2 ^ n) p) (ltb-true b (2 ^ n) q))
 
-pub every-lt : (n : ℕ) → every n < 2 ^ n
-unfolding every
-every-lt n = ones-lt n
+pub without-inside : (n a b : ℕ) → inside n a ≡ true → inside n b ≡ true → inside n (without a b) ≡ true
+unfolding inside without
+without-inside n a b p q =
+    let p′ = ltb-true a (2 ^ n) p in
+    lt-ltb (bitXor a (bitAnd a b)) (2 ^ n) (xor-lt n a (bitAnd a b) p′ (and-lt n a b p′ (ltb-true b (2 ^ n) q)))
+
+pub every-inside : (n : ℕ) → inside n (every n) ≡ true
+unfolding inside every
+every-inside n = lt-ltb (2 ^ n - 1) (2 ^ n) (ones-lt n)
+
+pub none-inside : (n : ℕ) → inside n 0 ≡ true
+unfolding inside
+none-inside n = lt-ltb 0 (2 ^ n) (pow-pos n)
 
 pub has-every : (n k : ℕ) → k < n → has (every n) k ≡ true
 unfolding has every

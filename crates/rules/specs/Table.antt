@@ -119,10 +119,13 @@ unfoldable pub gives : ℕ → Bool
 unfolding oneOf
 gives s = oneOf (M ∷ MI-A ∷ []) s
 
--- "GETS .. from 3, GETX .. from 4 or 5, PUTX .. from 9 or 10"
+-- "GETS .. from 3, GETX .. from 4 or 5, PUTX .. from 9 or 10"; no request is of kind 0
+abbrev pub askers : List (List ℕ)
+askers = [] ∷ (IS-AD ∷ []) ∷ (IM-AD ∷ SM-AD ∷ []) ∷ (MI-A ∷ II-A ∷ []) ∷ []
+
 unfoldable pub comesFrom : ℕ → ℕ → Bool
 unfolding oneOf
-comesFrom kind s = oneOf (getD ([] ∷ (IS-AD ∷ []) ∷ (IM-AD ∷ SM-AD ∷ []) ∷ (MI-A ∷ II-A ∷ []) ∷ []) kind []) s
+comesFrom kind s = oneOf (getD askers kind []) s
 
 -- "PUTX .. From 9": the put stands; from 10 it has lapsed
 unfoldable pub putStands : ℕ → Bool

@@ -1,0 +1,231 @@
+-- Demand 3: every run from an accepted Start is coherent. And what Start makes.
+use Prim.Native.Nat.{ℕ, _≤_}
+use native.Mathlib.Omega.{arith}
+use mathlib.Core.Bool.{Bool, true, false, cond, not, _||_, true≢false}
+use mathlib.Core.List.{List, [], _∷_}
+use mathlib.Core.Path.{_≡_, refl, sym, _∙_, ap, subst}
+use mathlib.Core.Logic.{_≢_}
+use lib.Dec.{eqb, ltb, leb}
+use borrow.Author.Tests.{not-false}
+use Rattle.rules.specs.Tests.{each, all, allOf}
+use Rattle.rules.specs.Lists.{All}
+use Rattle.rules.specs.Numbers.{home, granted, putTaken}
+use Rattle.rules.specs.Table.{loads, stores}
+use Rattle.rules.specs.Chassis.{Block, Chassis, cellOf, stateOf, idle, fresh, freshBlock}
+use Rattle.rules.specs.Answers.{refusalNo, refusalOf, Outcome, outcome, Reason, refusedBy}
+use Rattle.rules.specs.Order.{orderReasons}
+use Rattle.rules.specs.Formed.{sizes, homeOrCard, unusedBlock, wellFormed}
+use Rattle.rules.specs.Events.{noCard, noBlock, rightReasons, noMessage, reasons, ask, deliver, effect, step, start}
+use Rattle.rules.specs.History.{Did, loaded, stored, settles, rejoined, quiet, headBlock, accepted, did, Run, run, written}
+use Rattle.rules.specs.Demand.{Coherent}
+use Rattle.rules.specs.Claims.{Start-formed, Refused-start, Demand-3}
+use Rattle.rules.specs.declared.kinds.Request.{Request}
+use Rattle.rules.specs.declared.kinds.Answer.{Answer}
+use Rattle.rules.specs.declared.kinds.Answer.the-variants.{Done, Refused}
+use Rattle.rules.specs.declared.kinds.Refusal.{Refusal}
+use Rattle.rules.specs.declared.kinds.Refusal.the-variants.{Impossible, IllFormed}
+use Rattle.rules.specs.declared.kinds.Event.{Event}
+use Rattle.rules.specs.declared.kinds.Event.the-variants.{
+  Load,
+  Store,
+  Drop,
+  Ask,
+  Order,
+  Deliver,
+  Copy,
+  Rejoin,
+}
+use Rattle.rules.proofs.Tests.{clash, test, cond-cases, false-if}
+use Rattle.rules.proofs.Lists.{All-map}
+use Rattle.rules.proofs.Masks.{none-inside}
+use Rattle.rules.proofs.Board.{pending, base, pick, current}
+use Rattle.rules.proofs.Invariant.{RequestOk, Inv}
+use Rattle.rules.proofs.Blocks.{idle-ok, one-storer}
+use Rattle.rules.proofs.Holders.{held-not, possible, loader-only, load-current}
+use Rattle.rules.proofs.Stores.{LoadOk, Past, past-empty, past-more, struck-unseen}
+use Rattle.rules.proofs.Refusals.{None, refused-cases, IsDone, effect-done, Never, never-first, never-given, never-listed}
+use Rattle.rules.proofs.Steps.{step-ok}
+use Rattle.rules.proofs.Formed.{idle-wf, idle-unused, sizes→, →unused, →wf}
+use Rattle.rules.proofs.Stays.{stays-formed}
+
+-- Start
+
+-- an accepted Start has sizes in range, and makes a fresh chassis
+start-cases : (cards blocks : ℕ) (P : Outcome → Type 0)
+    → (sizes cards blocks ≡ true → P (outcome (Done 0) (fresh cards blocks)))
+    → ((r : Refusal) → P (outcome (Refused r) (fresh 0 0))) → P (start cards blocks)
+unfolding start
+start-cases cards blocks P f g = refused-cases (fresh 0 0) P _ (outcome (Done 0) (fresh cards blocks))
+    g (λ h. f (not-false (sizes cards blocks) (h .0)))
+
+refused≢done : (r : Refusal) (v : ℕ) → Refused r ≢ Done v
+refused≢done r v e = subst IsDone (sym e) tt
+
+fresh-formed : (cards blocks : ℕ) → sizes cards blocks ≡ true → wellFormed (fresh cards blocks) ≡ true
+unfolding homeOrCard
+fresh-formed cards blocks h = →wf (fresh cards blocks) (record {
+  size = h;
+  line-room = omega arith;
+  pool-room = omega arith;
+  requests = tt;
+  messages = tt;
+  used = λ b l u. record {
+    owner = refl;
+    sharers = none-inside cards;
+    places = λ k l8. record { used = λ _. idle-wf 0; unused = λ _. idle-unused };
+  };
+  unused = λ b l u. →unused freshBlock (record { memory = refl; owner = refl; sharers = refl; cells = λ _ _. idle-unused });
+})
+
+pub start-formed : Start-formed
+start-formed cards blocks = start-cases cards blocks (λ o. o .answer ≡ Done 0 → wellFormed (o .after) ≡ true)
+    (λ h _. fresh-formed cards blocks h) (λ r e. absurd (refused≢done r 0 e))
+
+-- no event is accepted without a card
+no-cards : wellFormed (fresh 0 0) ≡ false
+unfolding wellFormed each sizes
+no-cards = refl
+
+pub refused-start : Refused-start
+unfolding step refusedBy
+refused-start cards blocks r = start-cases cards blocks
+    (λ o. o .answer ≡ Refused r → (e : Event) → step (o .after) e ≡ outcome (Refused IllFormed) (o .after))
+    (λ _ h. absurd (refused≢done r 0 (sym h)))
+    (λ _ _ e. rw no-cards)
+
+-- a fresh chassis has done nothing yet
+fresh-ok : (cards blocks : ℕ) → cards ≤ home → Inv (fresh cards blocks) []
+unfolding pending base pick
+fresh-ok cards blocks few = record {
+  few = few;
+  blocks-ok = λ b. record {
+    cells = λ k. idle-ok cards home 0 0 0 k;
+    owner-ok = λ n. absurd (n refl);
+    writes = tt;
+    memory-is = refl;
+  };
+  messages = tt;
+  requests = tt;
+  distinct = tt;
+}
+
+-- Every event
+
+module _ {c : Chassis} {log : List Did} (inv : Inv c log) where
+  -- an accepted load
+  loaded-ok : (k b : ℕ) → loads (stateOf c k b) ≡ true → LoadOk log (loaded k b (cellOf c k b .value))
+  unfolding current
+  loaded-ok k b h = (
+    load-current (inv .blocks-ok b) (inv .few) k h,
+    All-map (λ w p. loader-only (inv .blocks-ok b) (inv .few) (w .card) k p h) (pending b log) (inv .blocks-ok b .writes),
+  )
+
+  -- an accepted event that is no load
+  other-ok : (e : Event) → ((v : ℕ) → LoadOk log (accepted c e v)) → (a : Answer) → LoadOk log (did c e a)
+  unfolding did
+  other-ok e h (Done v) = h v
+  other-ok e h (Refused r) = tt
+
+  effect-loads : (e : Event) → None (reasons c e) → LoadOk log (did c e (effect c e .answer))
+  unfolding reasons rightReasons effect did accepted
+  effect-loads (Load k b) h = loaded-ok k b (not-false (loads (stateOf c k b)) (h .1 .1 .0))
+  effect-loads (Store k b v) h = tt
+  effect-loads (Drop k b) h = tt
+  effect-loads (Ask k b kind mask) h = tt
+  effect-loads Order h = other-ok Order (λ v. cond-cases (LoadOk log)
+      (eqb v granted || eqb v putTaken) (settles (headBlock (c .line))) quiet (λ _. tt) (λ _. tt)) (effect c Order .answer)
+  effect-loads (Deliver i) h = other-ok (Deliver i) (λ v. tt) (effect c (Deliver i) .answer)
+  effect-loads (Copy i) h = tt
+  effect-loads (Rejoin k) h = tt
+
+  step-loads : (e : Event) → LoadOk log (did c e (step c e .answer))
+  unfolding step did
+  step-loads e = refused-cases c (λ (o : Outcome). LoadOk log (did c e (o .answer))) _ (effect c e) (λ _. tt) (λ h. effect-loads e (h .1))
+
+  -- 13 is never given
+  order-never : (l : List Request) → c .line ≡ l → Never (refusalNo Impossible) (orderReasons c l)
+  unfolding orderReasons refusalNo allOf
+  order-never [] at = never-listed 13 _ refl
+  order-never (r ∷ rest) at =
+      let ok = inv .blocks-ok (r .block) in
+      let asks = subst (All (λ r. RequestOk (c .block (r .block)) r)) at (inv .requests) .0 in
+      never-first 13 _ _ (λ _. omega arith) (λ _.
+      never-first 13 _ _ (λ _. omega arith) (λ h.
+      never-first 13 _ _ (λ p. absurd (clash p (possible ok (inv .few) (held-not ok (inv .few) h) r asks))) (λ _.
+      never-listed 13 _ refl)))
+
+  reasons-never : (e : Event) → Never (refusalNo Impossible) (reasons c e)
+  unfolding reasons rightReasons noCard noBlock noMessage refusalNo allOf
+  reasons-never (Load k b) = never-listed 13 _ refl
+  reasons-never (Store k b v) = never-listed 13 _ refl
+  reasons-never (Drop k b) = never-listed 13 _ refl
+  reasons-never (Ask k b kind mask) = never-listed 13 _ refl
+  reasons-never Order = order-never (c .line) refl
+  reasons-never (Deliver i) = never-listed 13 _ refl
+  reasons-never (Copy i) = never-listed 13 _ refl
+  reasons-never (Rejoin k) = never-listed 13 _ refl
+
+  never-impossible : (e : Event) → step c e .answer ≢ Refused Impossible
+  unfolding step refusalNo
+  never-impossible e = never-given c Impossible _ (effect c e)
+      (never-first 13 _ _ (λ _. omega arith) (λ _. reasons-never e)) (effect-done c e)
+
+-- 15 is given for an ill formed state alone
+order-formed : (c : Chassis) (l : List Request) → Never (refusalNo IllFormed) (orderReasons c l)
+unfolding orderReasons refusalNo allOf
+order-formed c [] = never-listed 15 _ refl
+order-formed c (r ∷ rest) = never-listed 15 _ refl
+
+reasons-formed : (c : Chassis) (e : Event) → Never (refusalNo IllFormed) (reasons c e)
+unfolding reasons rightReasons noCard noBlock noMessage refusalNo allOf
+reasons-formed c (Load k b) = never-listed 15 _ refl
+reasons-formed c (Store k b v) = never-listed 15 _ refl
+reasons-formed c (Drop k b) = never-listed 15 _ refl
+reasons-formed c (Ask k b kind mask) = never-listed 15 _ refl
+reasons-formed c Order = order-formed c (c .line)
+reasons-formed c (Deliver i) = never-listed 15 _ refl
+reasons-formed c (Copy i) = never-listed 15 _ refl
+reasons-formed c (Rejoin k) = never-listed 15 _ refl
+
+never-ill-formed : (c : Chassis) → wellFormed c ≡ true → (e : Event) → step c e .answer ≢ Refused IllFormed
+unfolding step refusalNo
+never-ill-formed c w e = never-given c IllFormed _ (effect c e)
+    (never-first 15 _ _ (λ p _. true≢false (sym p ∙ ap not w)) (λ _. reasons-formed c e)) (effect-done c e)
+
+-- Every run
+
+record Good (r : Run) : Type 0 where
+  inv : Inv (r .now) (r .log)
+  past : Past (r .log)
+  formed : wellFormed (r .now) ≡ true
+
+run-good : (c : Chassis) → Inv c [] → wellFormed c ≡ true → (es : List Event) → Good (run c es)
+unfolding run
+run-good c i w [] = record { inv = i; past = past-empty; formed = w }
+run-good c i w (e ∷ es) =
+    let g = run-good c i w es in
+    record {
+      inv = step-ok (g .inv) e;
+      past = past-more _ _ (step-loads (g .inv) e) (g .past);
+      formed = stays-formed _ e (g .formed);
+    }
+
+coherent : (r : Run) → Good r → Coherent r
+coherent r g = record {
+  loads-last = g .past .loads-last;
+  struck-by-rejoin = g .past .struck-ok;
+  struck-unseen = All-map struck-unseen (written (r .log)) (g .past .unseen);
+  one-storer = λ j k b ne h. (
+    false-if (λ q. ne (loader-only (g .inv .blocks-ok b) (g .inv .few) j k h q)),
+    false-if (λ q. ne (one-storer (g .inv .blocks-ok b) j k h q)),
+  );
+  never-impossible = never-impossible (g .inv);
+  never-ill-formed = never-ill-formed (r .now) (g .formed);
+}
+
+pub demand-3 : Demand-3
+demand-3 cards blocks = start-cases cards blocks
+    (λ o. o .answer ≡ Done 0 → (es : List Event) → Coherent (run (o .after) es))
+    (λ h _ es. coherent _ (run-good (fresh cards blocks)
+    (fresh-ok cards blocks (let f = sizes→ cards blocks h .few-cards in omega arith)) (fresh-formed cards blocks h) es))
+    (λ r e. absurd (refused≢done r 0 e))

@@ -1,0 +1,104 @@
+-- Refusals: what holds where an event is refused, and where none of its reasons holds.
+use Prim.Native.Nat.{ℕ}
+use native.Mathlib.Omega.{arith}
+use mathlib.Core.Bool.{Bool, true, false, not, true≢false}
+use mathlib.Core.List.{List, [], _∷_}
+use mathlib.Core.Path.{_≡_, refl, sym, _∙_, ap, subst}
+use mathlib.Core.Logic.{_≢_}
+use lib.Dec.{eqb}
+use borrow.Author.Tests.{eq-eqb, not-true}
+use Rattle.rules.specs.Tests.{allOf}
+use Rattle.rules.specs.Chassis.{Chassis}
+use Rattle.rules.specs.Answers.{refusalNo, refusalOf, Outcome, outcome, Reason, refusedBy}
+use Rattle.rules.specs.Order.{order, orderHead}
+use Rattle.rules.specs.Events.{messageAt, live, deliver, effect, step}
+use Rattle.rules.specs.Claims.{Refused-keeps}
+use Rattle.rules.specs.declared.kinds.Request.{Request}
+use Rattle.rules.specs.declared.kinds.Answer.{Answer}
+use Rattle.rules.specs.declared.kinds.Answer.the-variants.{Done, Refused}
+use Rattle.rules.specs.declared.kinds.Refusal.{Refusal}
+use Rattle.rules.specs.declared.kinds.Event.{Event}
+use Rattle.rules.specs.declared.kinds.Event.the-variants.{
+  Load,
+  Store,
+  Drop,
+  Ask,
+  Order,
+  Deliver,
+  Copy,
+  Rejoin,
+}
+use Rattle.rules.proofs.Tests.{clash, cond-cases, and-l, and-r}
+
+-- none of the reasons holds
+abbrev pub None : List Reason → Type 0
+None [] = Unit {0}
+None (r ∷ rs) = (r .holds ≡ false) × None rs
+
+pub refused-cases : (c : Chassis) (P : Outcome → Type 0) (rs : List Reason) (done : Outcome)
+    → ((r : Refusal) → P (outcome (Refused r) c)) → (None rs → P done) → P (refusedBy c rs done)
+unfolding refusedBy
+refused-cases c P [] done f g = g tt
+refused-cases c P (r ∷ rs) done f g = cond-cases P (r .holds) (outcome (Refused (r .why)) c) (refusedBy c rs done)
+    (λ _. f (r .why)) (λ e. refused-cases c P rs done f (λ h. g (e, h)))
+
+-- An accepted event answers a value
+
+abbrev pub IsDone : Answer → Type 0
+IsDone (Done v) = Unit {0}
+IsDone (Refused r) = ⊥
+
+order-done : (c : Chassis) (l : List Request) → IsDone (order c l .answer)
+unfolding order orderHead
+order-done c [] = tt
+order-done c (r ∷ rest) = tt
+
+pub effect-done : (c : Chassis) (e : Event) → IsDone (effect c e .answer)
+unfolding effect deliver
+effect-done c (Load k b) = tt
+effect-done c (Store k b v) = tt
+effect-done c (Drop k b) = tt
+effect-done c (Ask k b kind mask) = tt
+effect-done c Order = order-done c (c .line)
+effect-done c (Deliver i) = cond-cases (λ (o : Outcome). IsDone (o .answer)) (live (c .block (messageAt c i .block)) (messageAt c i)) _ _
+    (λ _. tt) (λ _. tt)
+effect-done c (Copy i) = tt
+effect-done c (Rejoin k) = tt
+
+-- "A refused event changes nothing in the chassis"
+pub refused-keeps : Refused-keeps
+unfolding step
+refused-keeps c e r = refused-cases c (λ (o : Outcome). o .answer ≡ Refused r → o .after ≡ c) _ (effect c e)
+    (λ _ _. refl) (λ _ h. absurd (subst IsDone h (effect-done c e)))
+
+-- A refusal that is never given
+
+-- n is the number of no reason that can be the first to hold
+unfoldable pub Never : ℕ → List Reason → Type 0
+Never n [] = Unit {0}
+Never n (r ∷ rs) = (r .holds ≡ true → refusalNo (r .why) ≢ n) × (r .holds ≡ false → Never n rs)
+
+pub never-first : (n : ℕ) (r : Reason) (rs : List Reason) → (r .holds ≡ true → refusalNo (r .why) ≢ n) → (r .holds ≡ false → Never n rs)
+    → Never n (r ∷ rs)
+unfolding Never
+never-first n r rs f g = (f, g)
+
+pub never-given : (c : Chassis) (x : Refusal) (rs : List Reason) (done : Outcome) → Never (refusalNo x) rs → IsDone (done .answer)
+    → refusedBy c rs done .answer ≢ Refused x
+unfolding refusedBy refusalOf Never
+never-given c x [] done h d = λ e. subst IsDone e d
+never-given c x (r ∷ rs) done h d =
+    cond-cases (λ o. o .answer ≢ Refused x) (r .holds) (outcome (Refused (r .why)) c) (refusedBy c rs done)
+    (λ p e. h .0 p (ap refusalOf e)) (λ p. never-given c x rs done (h .1 p) d)
+
+-- n is the number of none of the reasons: a test that antt computes
+abbrev pub unlisted : ℕ → Reason → Bool
+unlisted n r = not (eqb (refusalNo (r .why)) n)
+
+pub never-listed : (n : ℕ) (rs : List Reason) → allOf rs (unlisted n) ≡ true → Never n rs
+unfolding allOf Never
+never-listed n [] h = tt
+never-listed n (r ∷ rs) h = (
+  (λ _ e. clash (eq-eqb (refusalNo (r .why)) n e) (not-true _ (and-l (unlisted n r) (allOf rs (unlisted n)) h))),
+  λ _. never-listed n rs (and-r (unlisted n r) (allOf rs (unlisted n)) h),
+)

@@ -1,0 +1,547 @@
+-- A well formed state stays well formed under every event.
+use Prim.Native.Nat.{ℕ, suc, _+_, _≤_, _<_}
+use native.Mathlib.Omega.{arith}
+use mathlib.Core.Bool.{Bool, true, false, cond, not, _&&_, _||_, true≢false}
+use mathlib.Core.List.{List, [], _∷_, _++_, append-nil}
+use mathlib.Core.Path.{_≡_, refl, sym, subst}
+use mathlib.Core.Logic.{_≢_}
+use lib.ListN.{length, length-append}
+use lib.Dec.{eqb, ltb, leb}
+use borrow.Author.Tests.{eqb-true, eqb-false, eq-eqb, ne-eqb, ltb-true, lt-ltb, le-leb, leb-true, leb-false, not-false}
+use Rattle.rules.specs.Tests.{_⇒_, all}
+use Rattle.rules.specs.Lists.{removed, keep, All}
+use Rattle.rules.specs.Masks.{has, only, every, both, without, inside}
+use Rattle.rules.specs.Numbers.{mostCards, mostBlocks, home, room, lastNumber, lastRetry, gets, putx, none}
+use Rattle.rules.specs.Table.{loads, stores, drops, waits, reads, asked, comesFrom, putStands, grantedTo, seesGets, seesGetx}
+use Rattle.rules.specs.Chassis.{
+  Block,
+  Chassis,
+  cellOf,
+  stateOf,
+  idle,
+  goes,
+  goesFor,
+  withCell,
+  changed,
+  cellChanged,
+  poolChanged,
+}
+use Rattle.rules.specs.Answers.{Outcome}
+use Rattle.rules.specs.Order.{
+  held,
+  impossible,
+  noRoomFor,
+  orderReasons,
+  suffices,
+  Turn,
+  GetsGranted,
+  GetxGranted,
+  GetsMissed,
+  GetxMissed,
+  PutTaken,
+  PutLapsed,
+  turn,
+  ownerAfter,
+  sharersAfter,
+  askerSees,
+  ownerSees,
+  readerSees,
+  sees,
+  ordered,
+  dataFor,
+  sent,
+  retryMask,
+  retried,
+  again,
+  orderHead,
+  order,
+}
+use Rattle.rules.specs.Formed.{homeOrCard, unusedCell, unusedBlock, okRequest, okMessage, wellFormed}
+use Rattle.rules.specs.Events.{
+  noCard,
+  noBlock,
+  rightReasons,
+  noMessage,
+  reasons,
+  storing,
+  request,
+  ask,
+  messageAt,
+  live,
+  takes,
+  deliver,
+  rejoinBlock,
+  rejoin,
+  effect,
+  step,
+}
+use Rattle.rules.specs.Claims.{Stays-formed}
+use Rattle.rules.specs.declared.kinds.Cell.{Cell}
+use Rattle.rules.specs.declared.kinds.Request.{Request}
+use Rattle.rules.specs.declared.kinds.Message.{Message}
+use Rattle.rules.specs.declared.kinds.Event.{Event}
+use Rattle.rules.specs.declared.kinds.Event.the-variants.{
+  Load,
+  Store,
+  Drop,
+  Ask,
+  Order,
+  Deliver,
+  Copy,
+  Rejoin,
+}
+use Rattle.rules.proofs.Tests.{clash, test, cond-cases, and-i, and-l, and-r, or-i, imp, imp-i, any→, all-intro, some-false}
+use Rattle.rules.proofs.Lists.{put-cases, All-map, All-append, All-removed, All-at, All-keep, removed-short, keep-short}
+use Rattle.rules.proofs.Masks.{
+  has-every,
+  only-inside,
+  both-inside,
+  without-inside,
+  every-inside,
+  none-inside,
+}
+use Rattle.rules.proofs.Table.{state, gets-quiet, getx-quiet, filled, asking, asks}
+use Rattle.rules.proofs.Refusals.{None, refused-cases}
+use Rattle.rules.proofs.Steps.{live-waits}
+use Rattle.rules.proofs.Turns.{sees-cases}
+use Rattle.rules.proofs.Formed.{
+  CellWf,
+  goesFor-wf,
+  goes-wf,
+  idle-wf,
+  grow,
+  unused-idle,
+  idle-unused,
+  Place,
+  BlockWf,
+  grow-block,
+  unused→,
+  →unused,
+  RequestWf,
+  request→,
+  →request,
+  message→,
+  →message,
+  grow-message,
+  SizesWf,
+  sizes→,
+  Wf,
+  wf→,
+  →wf,
+}
+
+-- the next order number is not 0
+next-numbered : (n : ℕ) → not (eqb (suc n) 0) ≡ true
+next-numbered n = rw (ne-eqb (suc n) 0 (omega arith))
+
+-- Cells that see a request
+
+owner-wf : (t : Turn) (n : ℕ) (x : Cell) → CellWf n x → waits (x .state) ≡ false → CellWf n (ownerSees t x)
+unfolding ownerSees
+owner-wf GetsGranted n x h f = let q = gets-quiet (x .state) (h .code) f in goes-wf n (seesGets (x .state)) x (q .code) (q .waits-not)
+owner-wf GetxGranted n x h f = let q = getx-quiet (x .state) (h .code) f in goes-wf n (seesGetx (x .state)) x (q .code) (q .waits-not)
+owner-wf GetsMissed n x h f = h
+owner-wf GetxMissed n x h f = h
+owner-wf PutTaken n x h f = h
+owner-wf PutLapsed n x h f = h
+
+moved-wf : (n : ℕ) (x : Cell) → CellWf n x → waits (x .state) ≡ false
+    → CellWf n (cond (reads (x .state)) (goes (seesGetx (x .state)) x) x)
+moved-wf n x h f =
+    let q = getx-quiet (x .state) (h .code) f in
+    cond-cases (CellWf n) (reads (x .state)) (goes (seesGetx (x .state)) x) x
+    (λ _. goes-wf n (seesGetx (x .state)) x (q .code) (q .waits-not)) (λ _. h)
+
+reader-wf : (t : Turn) (n : ℕ) (x : Cell) → CellWf n x → waits (x .state) ≡ false → CellWf n (readerSees t x)
+unfolding readerSees
+reader-wf GetsGranted n x h f = h
+reader-wf GetxGranted n x h f = moved-wf n x h f
+reader-wf GetsMissed n x h f = h
+reader-wf GetxMissed n x h f = moved-wf n x h f
+reader-wf PutTaken n x h f = h
+reader-wf PutLapsed n x h f = h
+
+-- an idle cell sees nothing
+owner-idle : (t : Turn) → ownerSees t idle ≡ idle
+unfolding ownerSees seesGets seesGetx loads
+owner-idle GetsGranted = refl
+owner-idle GetxGranted = refl
+owner-idle GetsMissed = refl
+owner-idle GetxMissed = refl
+owner-idle PutTaken = refl
+owner-idle PutLapsed = refl
+
+reader-idle : (t : Turn) → readerSees t idle ≡ idle
+unfolding readerSees reads
+reader-idle GetsGranted = refl
+reader-idle GetxGranted = refl
+reader-idle GetsMissed = refl
+reader-idle GetxMissed = refl
+reader-idle PutTaken = refl
+reader-idle PutLapsed = refl
+
+-- A block that is not there stays as it is when a card rejoins
+
+rejoin-unused : (k : ℕ) (B : Block) → unusedBlock B ≡ true → unusedBlock (rejoinBlock k B) ≡ true
+unfolding rejoinBlock without
+rejoin-unused k B h =
+    let u = unused→ B h in
+    →unused (rejoinBlock k B) (record {
+      memory = u .memory;
+      owner = cond-cases (λ y. y ≡ home) (eqb (B .owner) k) home (B .owner) (λ _. refl) (λ _. u .owner);
+      sharers = rw (u .sharers);
+      cells = λ j l. put-cases (λ y. unusedCell y ≡ true) (B .cell) k idle j (λ _. idle-unused) (λ _. u .cells j l);
+    })
+
+module _ {c : Chassis} (w : Wf c) where
+  abbrev RequestsOk : List Request → Type 0
+  RequestsOk l = All (λ r. okRequest (c .cards) (c .blocks) r ≡ true) l
+
+  abbrev MessagesOk : ℕ → List Message → Type 0
+  MessagesOk n p = All (λ m. okMessage (c .cards) (c .blocks) n m ≡ true) p
+
+  few : SizesWf (c .cards) (c .blocks)
+  few = sizes→ (c .cards) (c .blocks) (w .size)
+
+  block-at : (b : ℕ) → b < c .blocks → BlockWf (c .cards) (c .last .0) (c .block b)
+  block-at b l = let f = few .few-blocks in w .used b (omega arith) l
+
+  place-at : (k b : ℕ) → k < c .cards → b < c .blocks → CellWf (c .last .0) (cellOf c k b)
+  place-at k b k< b< = let f = few .few-cards in block-at b b< .places k (omega arith) .used k<
+
+  -- the old messages, where more order numbers are given
+  older : (n : ℕ) → c .last .0 ≤ n → MessagesOk n (c .pool)
+  older n le = All-map (λ m. grow-message (c .cards) (c .blocks) (c .last .0) n m le) (c .pool) (w .messages)
+
+  -- What an event leaves
+
+  changed-wf : (b : ℕ) (B : Block) (l : List Request) (p : List Message) (n : ℕ) → b < c .blocks → c .last .0 ≤ n
+      → BlockWf (c .cards) n B → length l ≤ room → length p ≤ room → RequestsOk l → MessagesOk n p → Wf (changed c b B l p n)
+  changed-wf b B l p n b< le new lr pr rs ms = record {
+    size = w .size;
+    line-room = lr;
+    pool-room = pr;
+    requests = rs;
+    messages = ms;
+    used = λ b′ l u. put-cases (BlockWf (c .cards) n) (c .block) b B b′
+        (λ _. new) (λ _. grow-block (c .cards) (c .last .0) n (c .block b′) le (w .used b′ l u));
+    unused = λ b′ l u. put-cases (λ X. unusedBlock X ≡ true) (c .block) b B b′ (λ e. absurd (omega arith)) (λ _. w .unused b′ l u);
+  }
+
+  -- one cell of a card that is there anew
+  cell-wf : (k b : ℕ) (x : Cell) → k < c .cards → b < c .blocks → CellWf (c .last .0) x
+      → BlockWf (c .cards) (c .last .0) (withCell (c .block b) k x)
+  cell-wf k b x k< b< h =
+      let B = block-at b b< in
+      record {
+        owner = B .owner;
+        sharers = B .sharers;
+        places = λ j l. put-cases (Place (c .cards) (c .last .0) j) (c .block b .cell) k x j
+            (λ e. record { used = λ _. h; unused = λ q. absurd (omega arith) }) (λ _. B .places j l);
+      }
+
+  cell-step : (k b : ℕ) (x : Cell) → k < c .cards → b < c .blocks → CellWf (c .last .0) x → Wf (cellChanged c k b x)
+  cell-step k b x k< b< h = changed-wf b (withCell (c .block b) k x) (c .line) (c .pool) (c .last .0) b< (omega arith)
+      (cell-wf k b x k< b< h) (w .line-room) (w .pool-room) (w .requests) (w .messages)
+
+  pool-wf : (p : List Message) → length p ≤ room → MessagesOk (c .last .0) p → Wf (poolChanged c p)
+  pool-wf p l h = record {
+    size = w .size;
+    line-room = w .line-room;
+    pool-room = l;
+    requests = w .requests;
+    messages = h;
+    used = w .used;
+    unused = w .unused;
+  }
+
+  -- Store and Ask
+
+  stored-wf : (k b v : ℕ) → k < c .cards → b < c .blocks → stores (stateOf c k b) ≡ true → CellWf (c .last .0) (storing v (cellOf c k b))
+  stored-wf k b v k< b< h =
+      let x = place-at k b k< b< in
+      record {
+        code = x .code;
+        given = x .given;
+        awaited = x .awaited;
+        unawaited = x .unawaited;
+        unloaded = rw (state (stateOf c k b) (x .code) .stores-loads h);
+      }
+
+  ask-wf : (k b kind mask : ℕ) → k < c .cards → b < c .blocks → gets ≤ kind → kind ≤ putx → inside (c .cards) mask ≡ true
+      → eqb (asked kind (stateOf c k b)) none ≡ false → length (c .line) < room → Wf (ask c k b kind mask)
+  unfolding ask
+  ask-wf k b kind mask k< b< lo hi m h lr =
+      let s = stateOf c k b in
+      let t = asks kind s (omega arith) (place-at k b k< b< .code) h in
+      let r = request k b kind mask in
+      changed-wf b _ (c .line ++ r ∷ []) (c .pool) (c .last .0) b< (omega arith)
+      (cell-wf k b (goes (asked kind s) (cellOf c k b)) k< b< (goes-wf (c .last .0) (asked kind s) (cellOf c k b) (t .code) (t .waits-not)))
+      (rw (length-append (c .line) (r ∷ [])) (omega arith)) (w .pool-room)
+      (All-append (λ r. okRequest (c .cards) (c .blocks) r ≡ true) (c .line) (r ∷ []) (w .requests)
+      (→request (c .cards) (c .blocks) r
+      (record { card = k<; block = b<; low = lo; high = hi; mask = m; retry = omega arith; full = refl }), tt))
+      (w .messages)
+
+  -- Deliver and Copy
+
+  deliver-wf : (i : ℕ) → i < length (c .pool) → Wf (deliver c i (messageAt c i) .after)
+  unfolding deliver
+  deliver-wf i l =
+      let m = messageAt c i in
+      let b = m .block in
+      let k = m .receiver in
+      let x = cellOf c k b in
+      let P : Message → Type 0 = λ m. okMessage (c .cards) (c .blocks) (c .last .0) m ≡ true in
+      let mok = message→ (c .cards) (c .blocks) (c .last .0) m (All-at P (c .pool) i _ l (w .messages)) in
+      let p = removed i (c .pool) in
+      let short : length p ≤ room = let a = removed-short i (c .pool) in let b = w .pool-room in omega arith in
+      cond-cases (λ (o : Outcome). Wf (o .after)) (live (c .block b) m) _ _
+      (λ e. let wt = live-waits (c .block b) m e in
+      let t = filled (x .state) (place-at k b (mok .receiver) (mok .block) .code) wt in
+      changed-wf b (withCell (c .block b) k (takes m x)) (c .line) p (c .last .0) (mok .block) (omega arith)
+      (cell-wf k b (takes m x) (mok .receiver) (mok .block) (record {
+        code = t .code;
+        given = omega arith;
+        awaited = rw (t .waits-not);
+        unawaited = rw (t .waits-not);
+        unloaded = rw (t .loaded);
+      }))
+      (w .line-room) short (w .requests) (All-removed P i (c .pool) (w .messages)))
+      (λ _. pool-wf p short (All-removed P i (c .pool) (w .messages)))
+
+  copy-wf : (i : ℕ) → i < length (c .pool) → length (c .pool) < room → Wf (poolChanged c (c .pool ++ messageAt c i ∷ []))
+  copy-wf i l r =
+      let P : Message → Type 0 = λ m. okMessage (c .cards) (c .blocks) (c .last .0) m ≡ true in
+      pool-wf (c .pool ++ messageAt c i ∷ []) (rw (length-append (c .pool) (messageAt c i ∷ [])) (omega arith))
+      (All-append P (c .pool) (messageAt c i ∷ []) (w .messages) (All-at P (c .pool) i _ l (w .messages), tt))
+
+  -- Rejoin
+
+  rejoin-wf : (k : ℕ) → k < c .cards → Wf (rejoin c k)
+  unfolding rejoin rejoinBlock homeOrCard
+  rejoin-wf k k< =
+      let stays : Request → Bool = λ r. not (eqb (r .card) k) in
+      record {
+        size = w .size;
+        line-room = let a = keep-short stays (c .line) in let b = w .line-room in omega arith;
+        pool-room = w .pool-room;
+        requests = All-map (λ r h. h .0) (keep stays (c .line))
+            (All-keep (λ r. okRequest (c .cards) (c .blocks) r ≡ true) stays (c .line) (w .requests));
+        messages = w .messages;
+        used = λ b l u. let B = w .used b l u in record {
+          owner = cond-cases (λ y. homeOrCard (c .cards) y ≡ true) (eqb (c .block b .owner) k) home (c .block b .owner)
+              (λ _. refl) (λ _. B .owner);
+          sharers = without-inside (c .cards) (c .block b .sharers) (only k) (B .sharers) (only-inside (c .cards) k k<);
+          places = λ j l8. put-cases (Place (c .cards) (c .last .0) j) (c .block b .cell) k idle j
+              (λ _. record { used = λ _. idle-wf (c .last .0); unused = λ _. idle-unused }) (λ _. B .places j l8);
+        };
+        unused = λ b l u. rejoin-unused k (c .block b) (w .unused b l u);
+      }
+
+  -- Order
+
+  module _ (r : Request) (rest : List Request) (at : c .line ≡ r ∷ rest) (h : held (c .cards) (c .block (r .block)) ≡ false) where
+    abbrev Head : Block
+    Head = c .block (r .block)
+
+    abbrev Next : ℕ
+    Next = suc (c .last .0)
+
+    requests : RequestsOk (r ∷ rest)
+    requests = subst RequestsOk at (w .requests)
+
+    asks-ok : RequestWf (c .cards) (c .blocks) r
+    asks-ok = request→ (c .cards) (c .blocks) r (requests .0)
+
+    block-ok : BlockWf (c .cards) (c .last .0) Head
+    block-ok = block-at (r .block) (asks-ok .block)
+
+    owner-card : eqb (Head .owner) home ≡ false → Head .owner < c .cards
+    unfolding homeOrCard
+    owner-card e = ltb-true (Head .owner) (c .cards) (rw e at (block-ok .owner))
+
+    free : (k : ℕ) → k < c .cards → waits (stateOf c k (r .block)) ≡ false
+    unfolding held
+    free k k< = some-false (c .cards) (λ k. waits (Head .cell k .state)) h k k<
+
+    -- every card's cell
+    seen-wf : (t : Turn) → CellWf Next (askerSees t Next (cellOf c (r .card) (r .block)))
+        → (k : ℕ) → k < mostCards → Place (c .cards) Next k (sees t Head r Next k)
+    seen-wf t asker k k8 =
+        let x = Head .cell k in
+        let pl = block-ok .places k k8 in
+        let card = asks-ok .card in
+        record {
+          used = λ k<. let y = grow (c .last .0) Next x (omega arith) (pl .used k<) in
+              sees-cases (CellWf Next) t Head r Next k
+              (λ e. subst (λ i. CellWf Next (askerSees t Next (Head .cell i))) e asker)
+              (λ _ _. owner-wf t Next x y (free k k<)) (λ _ _ _. reader-wf t Next x y (free k k<)) (λ _ _ _. y);
+          unused = λ ge. let e = unused-idle x (pl .unused ge) in
+              sees-cases (λ y. unusedCell y ≡ true) t Head r Next k
+              (λ f. absurd (omega arith))
+              (λ _ _. subst (λ y. unusedCell (ownerSees t y) ≡ true) (sym e) (rw (owner-idle t) idle-unused))
+              (λ _ _ _. subst (λ y. unusedCell (readerSees t y) ≡ true) (sym e) (rw (reader-idle t) idle-unused))
+              (λ _ _ _. pl .unused ge);
+        }
+
+    -- home's part
+    owner-in : (t : Turn) → homeOrCard (c .cards) (ownerAfter t Head (r .card)) ≡ true
+    unfolding ownerAfter homeOrCard
+    owner-in GetsGranted = refl
+    owner-in GetxGranted = or-i {a = eqb (r .card) home} (λ _. lt-ltb (r .card) (c .cards) (asks-ok .card))
+    owner-in GetsMissed = block-ok .owner
+    owner-in GetxMissed = block-ok .owner
+    owner-in PutTaken = refl
+    owner-in PutLapsed = block-ok .owner
+
+    sharers-in : (t : Turn) → inside (c .cards) (sharersAfter t Head (r .card)) ≡ true
+    unfolding sharersAfter
+    sharers-in GetsGranted = both-inside (c .cards) _ (only (r .card))
+        (cond-cases (λ y. inside (c .cards) y ≡ true) (eqb (Head .owner) home) (Head .sharers) (only (Head .owner))
+        (λ _. block-ok .sharers) (λ e. only-inside (c .cards) (Head .owner) (owner-card e)))
+        (only-inside (c .cards) (r .card) (asks-ok .card))
+    sharers-in GetxGranted = none-inside (c .cards)
+    sharers-in GetsMissed = block-ok .sharers
+    sharers-in GetxMissed = block-ok .sharers
+    sharers-in PutTaken = none-inside (c .cards)
+    sharers-in PutLapsed = block-ok .sharers
+
+    -- the line and the pool
+    line-fits : (t : Turn) → length (rest ++ again t (c .cards) Head r) ≤ room
+    unfolding again
+    line-fits t = rw (length-append rest (again t (c .cards) Head r)) (go t)
+      where
+        fits : suc (length rest) ≤ room
+        fits = subst (λ l. length l ≤ room) at (w .line-room)
+
+        go : (t : Turn) → length rest + length (again t (c .cards) Head r) ≤ room
+        go GetsGranted = let z = fits in omega arith
+        go GetxGranted = let z = fits in omega arith
+        go GetsMissed = let z = fits in omega arith
+        go GetxMissed = let z = fits in omega arith
+        go PutTaken = let z = fits in omega arith
+        go PutLapsed = let z = fits in omega arith
+
+    data-wf : okMessage (c .cards) (c .blocks) Next (dataFor Head r Next) ≡ true
+    unfolding dataFor
+    data-wf = →message (c .cards) (c .blocks) Next (dataFor Head r Next) (record {
+      sender = block-ok .owner;
+      receiver = asks-ok .card;
+      block = asks-ok .block;
+      numbered = next-numbered (c .last .0);
+      given = omega arith;
+    })
+
+    sent-wf : (t : Turn) → MessagesOk Next (sent t Head r Next)
+    unfolding sent
+    sent-wf GetsGranted = (data-wf, tt)
+    sent-wf GetxGranted = (data-wf, tt)
+    sent-wf GetsMissed = tt
+    sent-wf GetxMissed = tt
+    sent-wf PutTaken = tt
+    sent-wf PutLapsed = tt
+
+    -- a turn, from what depends on it
+    turn-wf : (t : Turn) → CellWf Next (askerSees t Next (cellOf c (r .card) (r .block)))
+        → length (c .pool ++ sent t Head r Next) ≤ room → RequestsOk (again t (c .cards) Head r)
+        → Wf (changed c (r .block) (ordered t Head r Next) (rest ++ again t (c .cards) Head r) (c .pool ++ sent t Head r Next) Next)
+    unfolding ordered
+    turn-wf t asker pr rs =
+        changed-wf (r .block) (ordered t Head r Next) (rest ++ again t (c .cards) Head r) (c .pool ++ sent t Head r Next) Next
+        (asks-ok .block) (omega arith)
+        (record { owner = owner-in t; sharers = sharers-in t; places = seen-wf t asker })
+        (line-fits t) pr
+        (All-append (λ r. okRequest (c .cards) (c .blocks) r ≡ true) rest (again t (c .cards) Head r) (requests .1) rs)
+        (All-append (λ m. okMessage (c .cards) (c .blocks) Next m ≡ true) (c .pool) (sent t Head r Next)
+        (older Next (omega arith)) (sent-wf t))
+
+    -- a mask of every card suffices
+    every-suffices : r .mask ≡ every (c .cards) → suffices (c .cards) Head r ≡ true
+    unfolding suffices
+    every-suffices e =
+        and-i {a = eqb (Head .owner) home || has (r .mask) (Head .owner)}
+        (or-i {a = eqb (Head .owner) home} (λ f. rw e (has-every (c .cards) (Head .owner) (owner-card f))))
+        (or-i {a = eqb (r .kind) gets} (λ _. all-intro (c .cards) (λ k. has (Head .sharers) k ⇒ eqb k (r .card) || has (r .mask) k)
+        (λ k l. imp-i (has (Head .sharers) k) (λ _. or-i {a = eqb k (r .card)} (λ _. rw e (has-every (c .cards) k l))))))
+
+    -- so a request that is put back has a retry to go
+    retried-wf : suffices (c .cards) Head r ≡ false → okRequest (c .cards) (c .blocks) (retried (c .cards) Head r) ≡ true
+    unfolding retried retryMask
+    retried-wf f =
+        let next = suc (r .retry .0) in
+        let less : next ≤ lastRetry = test (eqb (r .retry .0) lastRetry)
+        (λ e. absurd (clash (every-suffices (eqb-true (r .mask) (every (c .cards)) (imp (asks-ok .full) e))) f))
+        (λ e. let ne = eqb-false (r .retry .0) lastRetry e in let le = asks-ok .retry in omega arith) in
+        →request (c .cards) (c .blocks) (retried (c .cards) Head r) (record {
+          card = asks-ok .card;
+          block = asks-ok .block;
+          low = asks-ok .low;
+          high = asks-ok .high;
+          retry = less;
+          mask = cond-cases (λ y. inside (c .cards) y ≡ true) (leb lastRetry next) (every (c .cards)) _ (λ _. every-inside (c .cards))
+              (λ _. cond-cases (λ y. inside (c .cards) y ≡ true) (eqb (Head .owner) home) (Head .sharers) _ (λ _. block-ok .sharers)
+              (λ e. both-inside (c .cards) (only (Head .owner)) (Head .sharers)
+              (only-inside (c .cards) (Head .owner) (owner-card e)) (block-ok .sharers)));
+          full = imp-i (eqb next lastRetry) (λ e.
+              rw (le-leb lastRetry next (let z = eqb-true next lastRetry e in omega arith)) (eq-eqb (every (c .cards)) (every (c .cards)) refl));
+        })
+
+    head-wf : impossible Head r ≡ false → noRoomFor c r ≡ false → Wf (orderHead c r rest .after)
+    unfolding orderHead turn askerSees sent again impossible noRoomFor
+    head-wf i full =
+        let s = Head .cell (r .card) .state in
+        let x = place-at (r .card) (r .block) (asks-ok .card) (asks-ok .block) in
+        let more = grow (c .last .0) Next (cellOf c (r .card) (r .block)) (omega arith) x in
+        let from : comesFrom (r .kind) s ≡ true = not-false (comesFrom (r .kind) s) (any→ (not (comesFrom (r .kind) s) ∷ _ ∷ _ ∷ _ ∷ _ ∷ []) i .0) in
+        let a = asking (r .kind) s (x .code) from in
+        let K : Turn → Type 0 = λ t. Wf (changed c (r .block) (ordered t Head r Next) (rest ++ again t (c .cards) Head r)
+        (c .pool ++ sent t Head r Next) Next) in
+        let short : length (c .pool ++ []) ≤ room = rw (append-nil (c .pool)) (w .pool-room) in
+        cond-cases K (eqb (r .kind) putx) _ _
+        (λ e. cond-cases K (putStands s) PutTaken PutLapsed
+        (λ _. turn-wf PutTaken (idle-wf Next) short tt) (λ _. turn-wf PutLapsed (idle-wf Next) short tt))
+        (λ e. let waiting = a .granted-waits e in
+        let asker : CellWf Next (goesFor Next (grantedTo s) (cellOf c (r .card) (r .block)))
+        = goesFor-wf Next Next (grantedTo s) (cellOf c (r .card) (r .block)) (a .granted-code e) (omega arith)
+        (imp-i (waits (grantedTo s)) (λ _. next-numbered (c .last .0)))
+        (rw waiting) in
+        let lt = leb-false room (length (c .pool)) (rw e at full) in
+        let long : length (c .pool ++ dataFor Head r Next ∷ []) ≤ room = rw (length-append (c .pool) (dataFor Head r Next ∷ [])) (omega arith) in
+        cond-cases K (suffices (c .cards) Head r) _ _
+        (λ f. cond-cases K (eqb (r .kind) gets) GetsGranted GetxGranted
+        (λ _. turn-wf GetsGranted asker long tt) (λ _. turn-wf GetxGranted asker long tt))
+        (λ f. cond-cases K (eqb (r .kind) gets) GetsMissed GetxMissed
+        (λ _. turn-wf GetsMissed more short (retried-wf f, tt)) (λ _. turn-wf GetxMissed more short (retried-wf f, tt))))
+
+  order-wf : (l : List Request) → c .line ≡ l → None (orderReasons c l) → Wf (order c l .after)
+  unfolding order orderReasons
+  order-wf [] at h = absurd (true≢false (h .0))
+  order-wf (r ∷ rest) at h = head-wf r rest at (h .1 .0) (h .1 .1 .0) (h .1 .1 .1 .0)
+
+  -- Every event
+
+  effect-wf : (e : Event) → None (reasons c e) → Wf (effect c e .after)
+  unfolding reasons rightReasons noCard noBlock noMessage effect
+  effect-wf (Load k b) h = w
+  effect-wf (Store k b v) h =
+      let k< = leb-false (c .cards) k (h .0) in
+      let b< = leb-false (c .blocks) b (h .1 .0) in
+      cell-step k b (storing v (cellOf c k b)) k< b< (stored-wf k b v k< b< (not-false (stores (stateOf c k b)) (h .1 .1 .0)))
+  effect-wf (Drop k b) h =
+      cell-step k b idle (leb-false (c .cards) k (h .0)) (leb-false (c .blocks) b (h .1 .0)) (idle-wf (c .last .0))
+  effect-wf (Ask k b kind mask) h =
+      let known = not-false (leb gets kind && leb kind putx) (h .1 .1 .0) in
+      ask-wf k b kind mask (leb-false (c .cards) k (h .0)) (leb-false (c .blocks) b (h .1 .0))
+      (leb-true gets kind (and-l (leb gets kind) (leb kind putx) known)) (leb-true kind putx (and-r (leb gets kind) (leb kind putx) known))
+      (not-false (inside (c .cards) mask) (h .1 .1 .1 .0)) (h .1 .1 .1 .1 .0)
+      (leb-false room (length (c .line)) (h .1 .1 .1 .1 .1 .0))
+  effect-wf Order h = order-wf (c .line) refl h
+  effect-wf (Deliver i) h = deliver-wf i (leb-false (length (c .pool)) i (h .0))
+  effect-wf (Copy i) h = copy-wf i (leb-false (length (c .pool)) i (h .0)) (leb-false room (length (c .pool)) (h .1 .0))
+  effect-wf (Rejoin k) h = rejoin-wf k (leb-false (c .cards) k (h .0))
+
+pub stays-formed : Stays-formed
+unfolding step
+stays-formed c e h = refused-cases c (λ (o : Outcome). wellFormed (o .after) ≡ true) _ (effect c e)
+    (λ _. h) (λ g. →wf (effect c e .after) (effect-wf (wf→ c h) e (g .1)))

@@ -1,0 +1,328 @@
+-- Facts of the card state table: each is one test of all states, proved by computing it. They hold of any table that passes the tests.
+use Prim.Native.Nat.{ℕ, _<_}
+use mathlib.Core.Bool.{Bool, true, false, not, _&&_, _||_, Bool·beq}
+use mathlib.Core.List.{List, [], _∷_}
+use mathlib.Core.Path.{_≡_, refl, sym, ap}
+use lib.ListN.{getD, List·getD-eq-default}
+use lib.Dec.{eqb, ltb}
+use borrow.Author.Tests.{eqb-true, ltb-true, ltb-false, not-true}
+use Rattle.rules.specs.Tests.{_⇒_, each, all, oneOf}
+use Rattle.rules.specs.Numbers.{gets, getx, putx, I, states, none}
+use Rattle.rules.specs.Table.{
+  loads,
+  stores,
+  asked,
+  seesGets,
+  seesGetx,
+  drops,
+  waits,
+  reads,
+  gives,
+  askers,
+  comesFrom,
+  putStands,
+  grantedTo,
+  filledTo,
+}
+use Rattle.rules.proofs.Tests.{clash, test, and-l, and-r, imp, each→, all-elim}
+use Rattle.rules.proofs.Invariant.{owns, shares, copies}
+
+imp-not : {a b : Bool} → (a ⇒ not b) ≡ true → a ≡ true → b ≡ false
+imp-not {a} {b} h p = not-true b (imp h p)
+
+-- a test fails where its negation is asked for
+fails : {b : Bool} → b ≡ false → not b ≡ true
+fails p = rw p
+
+beq-eq : (a b : Bool) → Bool·beq a b ≡ true → a ≡ b
+beq-eq true true h = refl
+beq-eq true false h = sym h
+beq-eq false true h = h
+beq-eq false false h = refl
+
+-- Any state
+
+pub record State (s : ℕ) : Type 0 where
+  pub stores-owns : stores s ≡ true → owns s ≡ true
+  pub stores-loads : stores s ≡ true → loads s ≡ true
+  pub stores-gives : stores s ≡ true → gives s ≡ true
+  pub stores-copies : stores s ≡ true → copies s ≡ false
+  pub owns-there : owns s ≡ true → eqb s I ≡ false
+  pub owns-reads : owns s ≡ true → reads s ≡ false
+  pub owns-stores : owns s ≡ true → waits s ≡ false → stores s ≡ true
+  pub shares-reads : shares s ≡ true → waits s ≡ false → reads s ≡ true
+  pub reads-there : reads s ≡ true → eqb s I ≡ false
+  pub copies-listed : copies s ≡ true → (owns s || shares s) ≡ true
+  pub copies-shares : copies s ≡ true → owns s ≡ false → shares s ≡ true
+  pub loads-copies : loads s ≡ true → stores s ≡ false → copies s ≡ true
+  pub drops-owns : drops s ≡ true → owns s ≡ false
+  pub drops-stores : drops s ≡ true → stores s ≡ false
+  pub waits-there : waits s ≡ true → eqb s I ≡ false
+  pub waits-stores : waits s ≡ true → stores s ≡ false
+
+pub state : (s : ℕ) → s < states → State s
+unfolding all loads stores gives owns shares copies reads drops waits
+state s l = record {
+  stores-owns = imp (all-elim states (λ s. stores s ⇒ owns s) refl s l);
+  stores-loads = imp (all-elim states (λ s. stores s ⇒ loads s) refl s l);
+  stores-gives = imp (all-elim states (λ s. stores s ⇒ gives s) refl s l);
+  stores-copies = imp-not (all-elim states (λ s. stores s ⇒ not (copies s)) refl s l);
+  owns-there = imp-not (all-elim states (λ s. owns s ⇒ not (eqb s I)) refl s l);
+  owns-reads = imp-not (all-elim states (λ s. owns s ⇒ not (reads s)) refl s l);
+  owns-stores = λ p q. imp (imp (all-elim states (λ s. owns s ⇒ not (waits s) ⇒ stores s) refl s l) p) (fails q);
+  shares-reads = λ p q. imp (imp (all-elim states (λ s. shares s ⇒ not (waits s) ⇒ reads s) refl s l) p) (fails q);
+  reads-there = imp-not (all-elim states (λ s. reads s ⇒ not (eqb s I)) refl s l);
+  copies-listed = imp (all-elim states (λ s. copies s ⇒ owns s || shares s) refl s l);
+  copies-shares = λ p q. imp (imp (all-elim states (λ s. copies s ⇒ not (owns s) ⇒ shares s) refl s l) p) (fails q);
+  loads-copies = λ p q. imp (imp (all-elim states (λ s. loads s ⇒ not (stores s) ⇒ copies s) refl s l) p) (fails q);
+  drops-owns = imp-not (all-elim states (λ s. drops s ⇒ not (owns s)) refl s l);
+  drops-stores = imp-not (all-elim states (λ s. drops s ⇒ not (stores s)) refl s l);
+  waits-there = imp-not (all-elim states (λ s. waits s ⇒ not (eqb s I)) refl s l);
+  waits-stores = imp-not (all-elim states (λ s. waits s ⇒ not (stores s)) refl s l);
+}
+
+-- Calm states: home lists the card neither as the owner nor, for its copy's sake, as a sharer, and no data is on its way
+
+unfoldable pub calm : ℕ → Bool
+calm s = each (ltb s states ∷ not (owns s) ∷ not (shares s) ∷ not (waits s) ∷ [])
+
+pub record Calm (s : ℕ) : Type 0 where
+  pub code : s < states
+  pub owns-not : owns s ≡ false
+  pub shares-not : shares s ≡ false
+  pub waits-not : waits s ≡ false
+
+calm→ : (s : ℕ) → calm s ≡ true → Calm s
+unfolding calm
+calm→ s h =
+    let t = each→ (ltb s states ∷ not (owns s) ∷ not (shares s) ∷ not (waits s) ∷ []) h in
+    record {
+      code = ltb-true s states (t .0);
+      owns-not = not-true (owns s) (t .1 .0);
+      shares-not = not-true (shares s) (t .1 .1 .0);
+      waits-not = not-true (waits s) (t .1 .1 .1 .0);
+    }
+
+pub idle-calm : Calm I
+unfolding calm each owns shares waits
+idle-calm = calm→ I refl
+
+-- a reader or an owner that sees another's GETX
+pub getx-calm : (s : ℕ) → s < states → (reads s || stores s) ≡ true → Calm (seesGetx s)
+unfolding all each reads stores calm seesGetx owns shares waits
+getx-calm s l p = calm→ (seesGetx s) (imp (all-elim states (λ s. reads s || stores s ⇒ calm (seesGetx s)) refl s l) p)
+
+-- an idle cell sees nothing
+pub gets-idle : seesGets I ≡ I
+unfolding seesGets
+gets-idle = refl
+
+pub getx-idle : seesGetx I ≡ I
+unfolding seesGetx
+getx-idle = refl
+
+-- what a state without data on its way sees leads to no such state
+pub record Quiet (s : ℕ) : Type 0 where
+  pub code : s < states
+  pub waits-not : waits s ≡ false
+
+quiet→ : (f : ℕ → ℕ) (s : ℕ) → (ltb (f s) states && not (waits (f s))) ≡ true → Quiet (f s)
+quiet→ f s h = record {
+  code = ltb-true (f s) states (and-l (ltb (f s) states) (not (waits (f s))) h);
+  waits-not = not-true (waits (f s)) (and-r (ltb (f s) states) (not (waits (f s))) h);
+}
+
+pub gets-quiet : (s : ℕ) → s < states → waits s ≡ false → Quiet (seesGets s)
+unfolding all waits seesGets
+gets-quiet s l p = quiet→ seesGets s
+    (imp (all-elim states (λ s. not (waits s) ⇒ ltb (seesGets s) states && not (waits (seesGets s))) refl s l) (fails p))
+
+pub getx-quiet : (s : ℕ) → s < states → waits s ≡ false → Quiet (seesGetx s)
+unfolding all waits seesGetx
+getx-quiet s l p = quiet→ seesGetx s
+    (imp (all-elim states (λ s. not (waits s) ⇒ ltb (seesGetx s) states && not (waits (seesGetx s))) refl s l) (fails p))
+
+-- An owner that sees GETS
+
+pub record Gave (s : ℕ) : Type 0 where
+  pub code : s < states
+  pub owns-not : owns s ≡ false
+  pub stores-not : stores s ≡ false
+  pub waits-not : waits s ≡ false
+  pub copies-loads : copies s ≡ true → loads s ≡ true
+
+pub gave : (s : ℕ) → s < states → stores s ≡ true → Gave (seesGets s)
+unfolding all loads stores owns copies waits seesGets
+gave s l p = record {
+  code = ltb-true (seesGets s) states (imp (all-elim states (λ s. stores s ⇒ ltb (seesGets s) states) refl s l) p);
+  owns-not = imp-not (all-elim states (λ s. stores s ⇒ not (owns (seesGets s))) refl s l) p;
+  stores-not = imp-not (all-elim states (λ s. stores s ⇒ not (stores (seesGets s))) refl s l) p;
+  waits-not = imp-not (all-elim states (λ s. stores s ⇒ not (waits (seesGets s))) refl s l) p;
+  copies-loads = imp (imp (all-elim states (λ s. stores s ⇒ copies (seesGets s) ⇒ loads (seesGets s)) refl s l) p);
+}
+
+-- An asker whose request is granted
+
+pub record GrantedGets (s : ℕ) : Type 0 where
+  pub there : eqb s I ≡ false
+  pub code : grantedTo s < states
+  pub owns-not : owns (grantedTo s) ≡ false
+  pub copies-not : copies (grantedTo s) ≡ false
+  pub stores-not : stores (grantedTo s) ≡ false
+
+pub granted-gets : (s : ℕ) → s < states → comesFrom gets s ≡ true → GrantedGets s
+unfolding all comesFrom grantedTo owns copies stores
+granted-gets s l p = record {
+  there = imp-not (all-elim states (λ s. comesFrom gets s ⇒ not (eqb s I)) refl s l) p;
+  code = ltb-true (grantedTo s) states (imp (all-elim states (λ s. comesFrom gets s ⇒ ltb (grantedTo s) states) refl s l) p);
+  owns-not = imp-not (all-elim states (λ s. comesFrom gets s ⇒ not (owns (grantedTo s))) refl s l) p;
+  copies-not = imp-not (all-elim states (λ s. comesFrom gets s ⇒ not (copies (grantedTo s))) refl s l) p;
+  stores-not = imp-not (all-elim states (λ s. comesFrom gets s ⇒ not (stores (grantedTo s))) refl s l) p;
+}
+
+pub record GrantedGetx (s : ℕ) : Type 0 where
+  pub there : eqb s I ≡ false
+  pub code : grantedTo s < states
+  pub owned : owns (grantedTo s) ≡ true
+  pub shares-not : shares (grantedTo s) ≡ false
+  pub stores-not : stores (grantedTo s) ≡ false
+  pub copies-from : copies (grantedTo s) ≡ true → copies s ≡ true
+  pub copies-shares : copies (grantedTo s) ≡ true → shares s ≡ true
+  pub copies-loads : copies (grantedTo s) ≡ true → loads (grantedTo s) ≡ true
+
+pub granted-getx : (s : ℕ) → s < states → comesFrom getx s ≡ true → GrantedGetx s
+unfolding all comesFrom grantedTo owns shares copies stores loads
+granted-getx s l p = record {
+  there = imp-not (all-elim states (λ s. comesFrom getx s ⇒ not (eqb s I)) refl s l) p;
+  code = ltb-true (grantedTo s) states (imp (all-elim states (λ s. comesFrom getx s ⇒ ltb (grantedTo s) states) refl s l) p);
+  owned = imp (all-elim states (λ s. comesFrom getx s ⇒ owns (grantedTo s)) refl s l) p;
+  shares-not = imp-not (all-elim states (λ s. comesFrom getx s ⇒ not (shares (grantedTo s))) refl s l) p;
+  stores-not = imp-not (all-elim states (λ s. comesFrom getx s ⇒ not (stores (grantedTo s))) refl s l) p;
+  copies-from = imp (imp (all-elim states (λ s. comesFrom getx s ⇒ copies (grantedTo s) ⇒ copies s) refl s l) p);
+  copies-shares = imp (imp (all-elim states (λ s. comesFrom getx s ⇒ copies (grantedTo s) ⇒ shares s) refl s l) p);
+  copies-loads = imp (imp (all-elim states (λ s. comesFrom getx s ⇒ copies (grantedTo s) ⇒ loads (grantedTo s)) refl s l) p);
+}
+
+-- A put
+
+pub put-stores : (s : ℕ) → s < states → putStands s ≡ true → stores s ≡ true
+unfolding all putStands stores
+put-stores s l = imp (all-elim states (λ s. putStands s ⇒ stores s) refl s l)
+
+pub lapsed-calm : (s : ℕ) → s < states → comesFrom putx s ≡ true → putStands s ≡ false → Calm s
+unfolding all each putStands calm comesFrom owns shares waits
+lapsed-calm s l p q =
+    calm→ s (imp (imp (all-elim states (λ s. comesFrom putx s ⇒ not (putStands s) ⇒ calm s) refl s l) p) (fails q))
+
+-- A cell whose data comes
+
+pub record Filled (s : ℕ) : Type 0 where
+  pub code : filledTo s < states
+  pub loaded : loads (filledTo s) ≡ true
+  pub waits-not : waits (filledTo s) ≡ false
+  pub owns-to : owns s ≡ true → owns (filledTo s) ≡ true
+  pub owns-from : owns (filledTo s) ≡ true → owns s ≡ true
+  pub shares-from : shares (filledTo s) ≡ true → shares s ≡ true
+  pub stores-from : stores (filledTo s) ≡ true → owns s ≡ true
+
+pub filled : (s : ℕ) → s < states → waits s ≡ true → Filled s
+unfolding all waits filledTo owns shares stores loads
+filled s l p = record {
+  code = ltb-true (filledTo s) states (imp (all-elim states (λ s. waits s ⇒ ltb (filledTo s) states) refl s l) p);
+  loaded = imp (all-elim states (λ s. waits s ⇒ loads (filledTo s)) refl s l) p;
+  waits-not = imp-not (all-elim states (λ s. waits s ⇒ not (waits (filledTo s))) refl s l) p;
+  owns-to = imp (imp (all-elim states (λ s. waits s ⇒ owns s ⇒ owns (filledTo s)) refl s l) p);
+  owns-from = imp (imp (all-elim states (λ s. waits s ⇒ owns (filledTo s) ⇒ owns s) refl s l) p);
+  shares-from = imp (imp (all-elim states (λ s. waits s ⇒ shares (filledTo s) ⇒ shares s) refl s l) p);
+  stores-from = imp (imp (all-elim states (λ s. waits s ⇒ stores (filledTo s) ⇒ owns s) refl s l) p);
+}
+
+-- A card with a request in the line
+
+-- a bound on the kinds
+abbrev pub kinds : ℕ
+kinds = 4
+
+pub kind-known : (kind s : ℕ) → comesFrom kind s ≡ true → kind < kinds
+unfolding comesFrom
+kind-known kind s h = test (ltb kind kinds) (λ e. ltb-true kind kinds e)
+    (λ e. absurd (clash h (ap (λ l. oneOf l s) (List·getD-eq-default askers [] (ltb-false kind kinds e)))))
+
+-- a fact of every kind and state
+asking-law : (g : ℕ → ℕ → Bool) → all kinds (λ kind. all states (λ s. comesFrom kind s ⇒ g kind s)) ≡ true
+    → (kind s : ℕ) → s < states → comesFrom kind s ≡ true → g kind s ≡ true
+asking-law g t kind s l h =
+    let rows = all-elim kinds (λ kind. all states (λ s. comesFrom kind s ⇒ g kind s)) t kind (kind-known kind s h) in
+    imp (all-elim states (λ s. comesFrom kind s ⇒ g kind s) rows s l) h
+
+pub record Asking (kind s : ℕ) : Type 0 where
+  pub kind-is : (eqb kind gets || eqb kind getx || eqb kind putx) ≡ true
+  pub there : eqb s I ≡ false
+  pub drops-not : drops s ≡ false
+  pub waits-not : waits s ≡ false
+  pub owns-not : eqb kind putx ≡ false → owns s ≡ false
+  pub put-owns : putStands s ≡ owns s
+  pub granted-code : eqb kind putx ≡ false → grantedTo s < states
+  pub granted-waits : eqb kind putx ≡ false → waits (grantedTo s) ≡ true
+  pub gets-stands : comesFrom kind (seesGets s) ≡ true
+  pub getx-stands : comesFrom kind (seesGetx s) ≡ true
+
+pub asking : (kind s : ℕ) → s < states → comesFrom kind s ≡ true → Asking kind s
+unfolding all comesFrom drops waits owns putStands grantedTo seesGets seesGetx
+asking kind s l h = record {
+  kind-is = asking-law (λ kind s. eqb kind gets || eqb kind getx || eqb kind putx) refl kind s l h;
+  there = not-true (eqb s I) (asking-law (λ kind s. not (eqb s I)) refl kind s l h);
+  drops-not = not-true (drops s) (asking-law (λ kind s. not (drops s)) refl kind s l h);
+  waits-not = not-true (waits s) (asking-law (λ kind s. not (waits s)) refl kind s l h);
+  owns-not = λ e. not-true (owns s) (imp (asking-law (λ kind s. not (eqb kind putx) ⇒ not (owns s)) refl kind s l h) (fails e));
+  put-owns = beq-eq (putStands s) (owns s) (asking-law (λ kind s. Bool·beq (putStands s) (owns s)) refl kind s l h);
+  granted-code = λ e. ltb-true (grantedTo s) states
+      (imp (asking-law (λ kind s. not (eqb kind putx) ⇒ ltb (grantedTo s) states) refl kind s l h) (fails e));
+  granted-waits = λ e. imp (asking-law (λ kind s. not (eqb kind putx) ⇒ waits (grantedTo s)) refl kind s l h) (fails e);
+  gets-stands = asking-law (λ kind s. comesFrom kind (seesGets s)) refl kind s l h;
+  getx-stands = asking-law (λ kind s. comesFrom kind (seesGetx s)) refl kind s l h;
+}
+
+-- A card that asks
+
+asked-law : (g : ℕ → ℕ → ℕ → Bool) → all kinds (λ kind. all states (λ s. not (eqb (asked kind s) none) ⇒ g kind s (asked kind s))) ≡ true
+    → (kind s : ℕ) → kind < kinds → s < states → eqb (asked kind s) none ≡ false → g kind s (asked kind s) ≡ true
+asked-law g t kind s l m h =
+    let rows = all-elim kinds (λ kind. all states (λ s. not (eqb (asked kind s) none) ⇒ g kind s (asked kind s))) t kind l in
+    imp (all-elim states (λ s. not (eqb (asked kind s) none) ⇒ g kind s (asked kind s)) rows s m) (fails h)
+
+-- no request of any kind waits in state s
+unfoldable pub free : ℕ → Bool
+free s = all kinds (λ kind. not (comesFrom kind s))
+
+pub record Asks (kind s t : ℕ) : Type 0 where
+  pub code : t < states
+  pub owns-to : owns s ≡ true → owns t ≡ true
+  pub owns-from : owns t ≡ true → owns s ≡ true
+  pub shares-from : shares t ≡ true → shares s ≡ true
+  pub copies-from : copies t ≡ true → copies s ≡ true
+  pub copies-loads : copies t ≡ true → loads t ≡ true
+  pub stores-to : stores s ≡ true → stores t ≡ true
+  pub stores-from : stores t ≡ true → stores s ≡ true
+  pub stores-loads : stores t ≡ true → loads t ≡ true
+  pub waits-not : waits t ≡ false
+  pub stands : comesFrom kind t ≡ true
+  pub none-waiting : (κ : ℕ) → comesFrom κ s ≡ true → ⊥
+
+pub asks : (kind s : ℕ) → kind < kinds → s < states → eqb (asked kind s) none ≡ false → Asks kind s (asked kind s)
+unfolding all asked owns shares copies stores loads waits comesFrom free
+asks kind s l m h = record {
+  code = ltb-true (asked kind s) states (asked-law (λ κ s t. ltb t states) refl kind s l m h);
+  owns-to = imp (asked-law (λ κ s t. owns s ⇒ owns t) refl kind s l m h);
+  owns-from = imp (asked-law (λ κ s t. owns t ⇒ owns s) refl kind s l m h);
+  shares-from = imp (asked-law (λ κ s t. shares t ⇒ shares s) refl kind s l m h);
+  copies-from = imp (asked-law (λ κ s t. copies t ⇒ copies s) refl kind s l m h);
+  copies-loads = imp (asked-law (λ κ s t. copies t ⇒ loads t) refl kind s l m h);
+  stores-to = imp (asked-law (λ κ s t. stores s ⇒ stores t) refl kind s l m h);
+  stores-from = imp (asked-law (λ κ s t. stores t ⇒ stores s) refl kind s l m h);
+  stores-loads = imp (asked-law (λ κ s t. stores t ⇒ loads t) refl kind s l m h);
+  waits-not = not-true (waits (asked kind s)) (asked-law (λ κ s t. not (waits t)) refl kind s l m h);
+  stands = asked-law (λ κ s t. comesFrom κ t) refl kind s l m h;
+  none-waiting = λ κ w. clash w (not-true (comesFrom κ s)
+      (all-elim kinds (λ κ. not (comesFrom κ s)) (asked-law (λ κ s t. free s) refl kind s l m h) κ (kind-known κ s w)));
+}

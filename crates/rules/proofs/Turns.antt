@@ -1,0 +1,346 @@
+-- Order, at the block of the head request: each of the six turns keeps the invariant.
+use Prim.Native.Nat.{ℕ, _≤_, _<_}
+use mathlib.Core.Bool.{Bool, true, false, cond, true≢false}
+use mathlib.Core.List.{List, [], _∷_}
+use mathlib.Core.Path.{_≡_, refl, sym, _∙_, subst}
+use mathlib.Core.Logic.{_≢_}
+use lib.Dec.{eqb}
+use borrow.Author.Tests.{eqb-true, eqb-false, eq-eqb, ne-eqb}
+use Rattle.rules.specs.Lists.{All}
+use Rattle.rules.specs.Masks.{has, only, both}
+use Rattle.rules.specs.Numbers.{home, gets, getx, I}
+use Rattle.rules.specs.Table.{stores, waits, reads, comesFrom, seesGets, seesGetx}
+use Rattle.rules.specs.Chassis.{Block, idle, goes}
+use Rattle.rules.specs.Order.{
+  Turn,
+  GetsGranted,
+  GetxGranted,
+  GetsMissed,
+  GetxMissed,
+  PutTaken,
+  PutLapsed,
+  given,
+  memoryAfter,
+  ownerAfter,
+  sharersAfter,
+  askerSees,
+  ownerSees,
+  readerSees,
+  sees,
+  ordered,
+}
+use Rattle.rules.specs.declared.kinds.Cell.{Cell}
+use Rattle.rules.specs.declared.kinds.Request.{Request}
+use Rattle.rules.proofs.Tests.{clash, test, cond-cases, false-if, or-i}
+use Rattle.rules.proofs.Lists.{All-map}
+use Rattle.rules.proofs.Masks.{has-both-l, has-both-r, has-only}
+use Rattle.rules.proofs.Board.{Write, pick, here}
+use Rattle.rules.proofs.Invariant.{owns, shares, CellOk, BlockOk}
+use Rattle.rules.proofs.Table.{
+  state,
+  Calm,
+  idle-calm,
+  getx-calm,
+  gets-idle,
+  getx-idle,
+  gave,
+  granted-gets,
+  granted-getx,
+  asking,
+}
+use Rattle.rules.proofs.Blocks.{calm-ok, stores-own, one-owner}
+use Rattle.rules.proofs.Holders.{
+  there,
+  owner-alone,
+  owner-card,
+  calm-here,
+  given-home,
+  given-owner,
+  given-current,
+}
+
+-- a card sees a request: by the part that it has
+pub sees-cases : (P : Cell → Type 0) (t : Turn) (B : Block) (r : Request) (n k : ℕ)
+    → (r .card ≡ k → P (askerSees t n (B .cell k)))
+    → (r .card ≢ k → B .owner ≡ k → P (ownerSees t (B .cell k)))
+    → (r .card ≢ k → B .owner ≢ k → has (r .mask) k ≡ true → P (readerSees t (B .cell k)))
+    → (r .card ≢ k → B .owner ≢ k → has (r .mask) k ≡ false → P (B .cell k))
+    → P (sees t B r n k)
+unfolding sees
+sees-cases P t B r n k f g h i =
+    let q = r .card in
+    let o = B .owner in
+    let x = B .cell k in
+    cond-cases P (eqb q k) (askerSees t n x) _ (λ e. f (eqb-true q k e))
+    (λ e. cond-cases P (eqb o k) (ownerSees t x) _ (λ e′. g (eqb-false q k e) (eqb-true o k e′))
+    (λ e′. cond-cases P (has (r .mask) k) (readerSees t x) x
+    (h (eqb-false q k e) (eqb-false o k e′)) (i (eqb-false q k e) (eqb-false o k e′))))
+
+-- a turn in which only the asker moves
+others-stay : (P : Cell → Type 0) (t : Turn) (B : Block) (r : Request) (n k : ℕ)
+    → ((x : Cell) → ownerSees t x ≡ x) → ((x : Cell) → readerSees t x ≡ x)
+    → (r .card ≡ k → P (askerSees t n (B .cell k))) → (r .card ≢ k → P (B .cell k)) → P (sees t B r n k)
+others-stay P t B r n k o e f g = sees-cases P t B r n k f
+    (λ h _. subst P (sym (o (B .cell k))) (g h)) (λ h _ _. subst P (sym (e (B .cell k))) (g h)) (λ h _ _. g h)
+
+-- what becomes of cell x of card j, where card q's request is ordered under number n
+pub record Seen (cards owner sharers memory current q n j : ℕ) (x y : Cell) : Type 0 where
+  pub cell-ok : CellOk cards owner sharers memory current j y
+  pub waits-only : waits (y .state) ≡ true → (q ≡ j) × (y .awaits .0 ≡ n)
+  pub stands : (kind : ℕ) → q ≢ j → comesFrom kind (x .state) ≡ true → comesFrom kind (y .state) ≡ true
+
+-- what an Order of request r under number n leaves of block B
+pub record Ordered (cards : ℕ) (B B′ : Block) (q n : ℕ) (ws : List Write) (d : ℕ) : Type 0 where
+  pub seen : (j : ℕ) → Seen cards (B′ .owner) (B′ .sharers) (B′ .memory) (pick here ws d) q n j (B .cell j) (B′ .cell j)
+  pub owner-ok : B′ .owner ≢ home → owns (B′ .cell (B′ .owner) .state) ≡ true
+  pub writes : All (λ w. stores (B′ .cell (w .card) .state) ≡ true) ws
+  pub memory-is : B′ .memory ≡ d
+
+pub ordered-block : {cards : ℕ} {B B′ : Block} {q n : ℕ} {ws : List Write} {d : ℕ}
+    → Ordered cards B B′ q n ws d → BlockOk cards B′ ws d
+ordered-block or = record {
+  cells = λ k. or .seen k .cell-ok;
+  owner-ok = or .owner-ok;
+  writes = or .writes;
+  memory-is = or .memory-is;
+}
+
+-- a cell that is calm afterwards
+calm-seen : (cards owner sharers memory current q n j : ℕ) (x y : Cell) → Calm (y .state) → (eqb (y .state) I ≡ false → j < cards)
+    → ((kind : ℕ) → q ≢ j → comesFrom kind (x .state) ≡ true → comesFrom kind (y .state) ≡ true)
+    → Seen cards owner sharers memory current q n j x y
+calm-seen cards owner sharers memory current q n j x y h l st = record {
+  cell-ok = calm-ok cards owner sharers memory current j y h l;
+  waits-only = λ p. absurd (clash p (h .waits-not));
+  stands = st;
+}
+
+module _ {cards : ℕ} {B : Block} {ws : List Write} {d : ℕ} (ok : BlockOk cards B ws d) (few : cards ≤ home)
+    (free : (k : ℕ) → waits (B .cell k .state) ≡ false) where
+  -- a cell that is not moved, where home's part stays
+  same-seen : (q n j : ℕ) → Seen cards (B .owner) (B .sharers) (B .memory) (pick here ws d) q n j (B .cell j) (B .cell j)
+  same-seen q n j = record { cell-ok = ok .cells j; waits-only = λ p. absurd (clash p (free j)); stands = λ _ _ p. p }
+
+  -- a calm cell that is not moved, where home's part may not stay
+  still-calm : (owner sharers memory current q n j : ℕ) → Calm (B .cell j .state)
+      → Seen cards owner sharers memory current q n j (B .cell j) (B .cell j)
+  still-calm owner sharers memory current q n j h =
+      calm-seen cards owner sharers memory current q n j (B .cell j) (B .cell j) h (ok .cells j .inside) (λ _ _ p. p)
+
+  -- a reader that moves
+  reader-moves : (owner sharers memory current q n j : ℕ) → reads (B .cell j .state) ≡ true
+      → Seen cards owner sharers memory current q n j (B .cell j) (goes (seesGetx (B .cell j .state)) (B .cell j))
+  reader-moves owner sharers memory current q n j h =
+      let s = B .cell j .state in
+      let l = ok .cells j .code in
+      calm-seen cards owner sharers memory current q n j (B .cell j) (goes (seesGetx s) (B .cell j))
+      (getx-calm s l (rw h))
+      (λ _. ok .cells j .inside (state s l .reads-there h))
+      (λ kind _ p. asking kind s l p .getx-stands)
+
+  -- an idle cell that sees a request stays idle, and is all right beside anything
+  idle-moves : (owner sharers memory current q n j t : ℕ) → eqb (B .cell j .state) I ≡ true → t ≡ I
+      → Seen cards owner sharers memory current q n j (B .cell j) (goes t (B .cell j))
+  idle-moves owner sharers memory current q n j t i e =
+      calm-seen cards owner sharers memory current q n j (B .cell j) (goes t (B .cell j))
+      (subst Calm (sym e) idle-calm)
+      (λ p. absurd (clash (eq-eqb t I e) p))
+      (λ kind _ p. absurd (clash i (asking kind (B .cell j .state) (ok .cells j .code) p .there)))
+
+  module _ (r : Request) (n : ℕ) where
+    -- a granted GETS
+    pub gets-ordered : comesFrom gets (B .cell (r .card) .state) ≡ true
+        → Ordered cards B (ordered GetsGranted B r n) (r .card) n [] (pick here ws d)
+    unfolding ordered memoryAfter ownerAfter sharersAfter askerSees ownerSees readerSees pick
+    gets-ordered asks =
+        let q = r .card in
+        let o = B .owner in
+        let kept = cond (eqb o home) (B .sharers) (only o) in
+        let current = pick here ws d in
+        let Sees : ℕ → Cell → Type 0 = λ j y. Seen cards home (both kept (only q)) (given B) current q n j (B .cell j) y in
+        let rest : (j : ℕ) → o ≢ j → Sees j (B .cell j) = λ j no′.
+        let x = ok .cells j in
+        let s = state (B .cell j .state) (x .code) in
+        let owns-not = false-if (λ g. no′ (x .owned g)) in
+        record {
+          cell-ok = record {
+            code = x .code;
+            inside = x .inside;
+            owned = λ p. absurd (no′ (x .owned p));
+            shared = λ p. (refl, has-both-l kept (only q) j (rw (eq-eqb o home (x .shared p .0)) (x .shared p .1)));
+            copied = λ p. x .copied p ∙ sym (given-home ok few free (x .shared (s .copies-shares p owns-not) .0));
+            written = λ p. absurd (no′ (x .owned (stores-own ok j p)));
+          };
+          waits-only = λ p. absurd (clash p (free j));
+          stands = λ _ _ p. p;
+        } in
+        record {
+          seen = λ j.
+              let x = B .cell j in
+              let s = x .state in
+              let l = ok .cells j .code in
+              sees-cases (Sees j) GetsGranted B r n j
+              (λ e. let t = granted-gets s l (subst (λ i. comesFrom gets (B .cell i .state) ≡ true) e asks) in record {
+                cell-ok = record {
+                  code = t .code;
+                  inside = λ _. ok .cells j .inside (t .there);
+                  owned = λ p. absurd (clash p (t .owns-not));
+                  shared = λ _. (refl, has-both-r kept (only q) j (subst (λ i. has (only q) i ≡ true) e (has-only q)));
+                  copied = λ p. absurd (clash p (t .copies-not));
+                  written = λ p. absurd (clash p (t .stores-not));
+                };
+                waits-only = λ _. (e, refl);
+                stands = λ _ ne. absurd (ne e);
+              })
+              (λ ne e. test (eqb s I)
+              (λ i. idle-moves home (both kept (only q)) (given B) current q n j (seesGets s) i (rw (eqb-true s I i) gets-idle))
+              (λ i. let t = gave s l (owner-card ok few free j e i) in record {
+                cell-ok = record {
+                  code = t .code;
+                  inside = λ _. ok .cells j .inside i;
+                  owned = λ p. absurd (clash p (t .owns-not));
+                  shared = λ _. (
+                    refl,
+                    has-both-l kept (only q) j (rw (ne-eqb o home (λ f. there ok few j i (sym e ∙ f)))
+                        (subst (λ i. has (only o) i ≡ true) e (has-only o))),
+                  );
+                  copied = λ p. rw (t .copies-loads p) (sym (given-owner ok few free j e i));
+                  written = λ p. absurd (clash p (t .stores-not));
+                };
+                waits-only = λ p. absurd (clash p (t .waits-not));
+                stands = λ kind _ p. asking kind s l p .gets-stands;
+              }))
+              (λ _ no′ _. rest j no′) (λ _ no′ _. rest j no′);
+          owner-ok = λ n. absurd (n refl);
+          writes = tt;
+          memory-is = given-current ok few free;
+        }
+
+    -- a granted GETX
+    pub getx-ordered : comesFrom getx (B .cell (r .card) .state) ≡ true
+        → ((k : ℕ) → k < cards → has (B .sharers) k ≡ true → r .card ≢ k → has (r .mask) k ≡ true)
+        → Ordered cards B (ordered GetxGranted B r n) (r .card) n [] (pick here ws d)
+    unfolding ordered memoryAfter ownerAfter sharersAfter askerSees ownerSees readerSees pick sees
+    getx-ordered asks enough =
+        let q = r .card in
+        let o = B .owner in
+        let current = pick here ws d in
+        let asked = granted-getx (B .cell q .state) (ok .cells q .code) asks in
+        let Sees : ℕ → Cell → Type 0 = λ j y. Seen cards q 0 (given B) current q n j (B .cell j) y in
+        let calm : (j : ℕ) → o ≢ j → (shares (B .cell j .state) ≡ true → ⊥) → Sees j (B .cell j)
+        = λ j no′ h. still-calm q 0 (given B) current q n j (calm-here ok few free j (λ p. no′ (ok .cells j .owned p)) h) in
+        record {
+          seen = λ j.
+              let x = B .cell j in
+              let s = x .state in
+              let l = ok .cells j .code in
+              let reader : shares s ≡ true → reads s ≡ true = λ p. state s l .shares-reads p (free j) in
+              sees-cases (Sees j) GetxGranted B r n j
+              (λ e. let t = granted-getx s l (subst (λ i. comesFrom getx (B .cell i .state) ≡ true) e asks) in record {
+                cell-ok = record {
+                  code = t .code;
+                  inside = λ _. ok .cells j .inside (t .there);
+                  owned = λ _. e;
+                  shared = λ p. absurd (clash p (t .shares-not));
+                  copied = λ p. rw (t .copies-loads p) (ok .cells j .copied (t .copies-from p)
+                      ∙ sym (given-home ok few free (ok .cells j .shared (t .copies-shares p) .0)));
+                  written = λ p. absurd (clash p (t .stores-not));
+                };
+                waits-only = λ _. (e, refl);
+                stands = λ _ ne. absurd (ne e);
+              })
+              (λ ne e. test (eqb s I)
+              (λ i. idle-moves q 0 (given B) current q n j (seesGetx s) i (rw (eqb-true s I i) getx-idle))
+              (λ i. calm-seen cards q 0 (given B) current q n j x (goes (seesGetx s) x)
+              (getx-calm s l (or-i {a = reads s} (λ _. owner-card ok few free j e i)))
+              (λ _. ok .cells j .inside i)
+              (λ kind _ p. asking kind s l p .getx-stands)))
+              (λ ne no′ _. cond-cases (Sees j) (reads s) (goes (seesGetx s) x) x
+              (λ g. reader-moves q 0 (given B) current q n j g)
+              (λ g. calm j no′ (λ p. clash (reader p) g)))
+              (λ ne no′ h. calm j no′ (λ p.
+              clash (enough j (ok .cells j .inside (state s l .reads-there (reader p))) (ok .cells j .shared p .1) ne) h));
+          owner-ok = λ _. rw (eq-eqb q q refl) (asked .owned);
+          writes = tt;
+          memory-is = given-current ok few free;
+        }
+
+    -- a missed GETX: its readers move
+    missed-cases : (P : ℕ → Cell → Type 0) → ((j : ℕ) → P j (B .cell j))
+        → ((j : ℕ) → reads (B .cell j .state) ≡ true → P j (goes (seesGetx (B .cell j .state)) (B .cell j)))
+        → (j : ℕ) → P j (sees GetxMissed B r n j)
+    unfolding askerSees ownerSees readerSees
+    missed-cases P f g j = sees-cases (P j) GetxMissed B r n j (λ _. f j) (λ _ _. f j)
+        (λ _ _ _. cond-cases (P j) (reads (B .cell j .state)) (goes (seesGetx (B .cell j .state)) (B .cell j)) (B .cell j)
+        (λ h. g j h) (λ _. f j)) (λ _ _ _. f j)
+
+    not-reader : (j : ℕ) → owns (B .cell j .state) ≡ true → reads (B .cell j .state) ≡ true → ⊥
+    not-reader j p h = clash h (state (B .cell j .state) (ok .cells j .code) .owns-reads p)
+
+    pub getx-missed : Ordered cards B (ordered GetxMissed B r n) (r .card) n ws d
+    unfolding ordered memoryAfter ownerAfter sharersAfter
+    getx-missed = record {
+      seen = missed-cases (λ j y. Seen cards (B .owner) (B .sharers) (B .memory) (pick here ws d) (r .card) n j (B .cell j) y)
+          (same-seen (r .card) n)
+          (λ j h. reader-moves (B .owner) (B .sharers) (B .memory) (pick here ws d) (r .card) n j h);
+      owner-ok = λ ne. missed-cases (λ j y. owns (B .cell j .state) ≡ true → owns (y .state) ≡ true)
+          (λ j p. p) (λ j h p. absurd (not-reader j p h)) (B .owner) (ok .owner-ok ne);
+      writes = All-map (λ w p. missed-cases (λ j y. stores (B .cell j .state) ≡ true → stores (y .state) ≡ true)
+          (λ j p. p) (λ j h p. absurd (not-reader j (stores-own ok j p) h)) (w .card) p) ws (ok .writes);
+      memory-is = ok .memory-is;
+    }
+
+    -- a missed GETS: nobody moves
+    pub gets-missed : Ordered cards B (ordered GetsMissed B r n) (r .card) n ws d
+    unfolding ordered memoryAfter ownerAfter sharersAfter askerSees ownerSees readerSees
+    gets-missed =
+        let whole : (P : Cell → Type 0) (j : ℕ) → P (B .cell j) → P (sees GetsMissed B r n j)
+        = λ P j f. others-stay P GetsMissed B r n j (λ _. refl) (λ _. refl) (λ _. f) (λ _. f) in
+        record {
+          seen = λ j. whole (Seen cards (B .owner) (B .sharers) (B .memory) (pick here ws d) (r .card) n j (B .cell j)) j
+              (same-seen (r .card) n j);
+          owner-ok = λ ne. whole (λ y. owns (y .state) ≡ true) (B .owner) (ok .owner-ok ne);
+          writes = All-map (λ w p. whole (λ y. stores (y .state) ≡ true) (w .card) p) ws (ok .writes);
+          memory-is = ok .memory-is;
+        }
+
+    -- a put: the asker goes, the others stay
+    idle-seen : (owner sharers memory current j : ℕ) → r .card ≡ j
+        → Seen cards owner sharers memory current (r .card) n j (B .cell j) idle
+    idle-seen owner sharers memory current j e = calm-seen cards owner sharers memory current (r .card) n j (B .cell j) idle
+        idle-calm (λ p. absurd (true≢false p)) (λ _ ne. absurd (ne e))
+
+    pub put-taken : stores (B .cell (r .card) .state) ≡ true → Ordered cards B (ordered PutTaken B r n) (r .card) n [] (pick here ws d)
+    unfolding ordered memoryAfter ownerAfter sharersAfter askerSees ownerSees readerSees pick
+    put-taken h =
+        let q = r .card in
+        let own = stores-own ok q h in
+        let v = B .cell q .value in
+        let current = pick here ws d in
+        record {
+          seen = λ j. others-stay (Seen cards home 0 v current q n j (B .cell j)) PutTaken B r n j (λ _. refl) (λ _. refl)
+              (idle-seen home 0 v current j)
+              (λ ne. still-calm home 0 v current q n j
+              (calm-here ok few free j (λ p. ne (one-owner ok q j own p)) (owner-alone ok few q j own)));
+          owner-ok = λ n. absurd (n refl);
+          writes = tt;
+          memory-is = ok .cells q .written h;
+        }
+
+    pub put-lapsed : Calm (B .cell (r .card) .state) → Ordered cards B (ordered PutLapsed B r n) (r .card) n ws d
+    unfolding ordered memoryAfter ownerAfter sharersAfter askerSees ownerSees readerSees
+    put-lapsed h =
+        let q = r .card in
+        let stay : (P : Cell → Type 0) (j : ℕ) → (q ≡ j → P idle) → (q ≢ j → P (B .cell j)) → P (sees PutLapsed B r n j)
+        = λ P j. others-stay P PutLapsed B r n j (λ _. refl) (λ _. refl) in
+        let other : (j : ℕ) → owns (B .cell j .state) ≡ true → q ≢ j
+        = λ j p e. clash p (subst (λ i. owns (B .cell i .state) ≡ false) e (h .owns-not)) in
+        record {
+          seen = λ j. stay (Seen cards (B .owner) (B .sharers) (B .memory) (pick here ws d) q n j (B .cell j)) j
+              (idle-seen (B .owner) (B .sharers) (B .memory) (pick here ws d) j) (λ _. same-seen q n j);
+          owner-ok = λ ne. stay (λ y. owns (y .state) ≡ true) (B .owner)
+              (λ e. absurd (other (B .owner) (ok .owner-ok ne) e)) (λ _. ok .owner-ok ne);
+          writes = All-map (λ w p. stay (λ y. stores (y .state) ≡ true) (w .card)
+              (λ e. absurd (other (w .card) (stores-own ok (w .card) p) e)) (λ _. p)) ws (ok .writes);
+          memory-is = ok .memory-is;
+        }
