@@ -1,15 +1,15 @@
 -- One block: the invariant is kept by what each event other than Order does to it.
 use Prim.Native.Nat.{ℕ, _≤_, _<_}
-use mathlib.Core.Bool.{Bool, true, false, cond, not, true≢false}
+use mathlib.Core.Bool.{true, false, cond, true≢false}
 use mathlib.Core.List.{List, [], _∷_}
 use mathlib.Core.Path.{_≡_, refl, sym, _∙_}
 use mathlib.Core.Logic.{_≢_}
 use lib.Dec.{eqb}
 use borrow.Author.Tests.{eqb-false, eq-eqb, ne-eqb, not-true}
-use Rattle.rules.specs.Lists.{put, keep, All}
-use Rattle.rules.specs.Masks.{has, only, without}
+use Rattle.rules.specs.Lists.{keep, All}
+use Rattle.rules.specs.Masks.{only, without}
 use Rattle.rules.specs.Numbers.{home, I, none}
-use Rattle.rules.specs.Table.{stores, drops, waits, asked, filledTo}
+use Rattle.rules.specs.Table.{stores, drops, waits, asked}
 use Rattle.rules.specs.Chassis.{Block, idle, goes, withCell}
 use Rattle.rules.specs.Events.{storing, takes, rejoinBlock}
 use Rattle.rules.specs.declared.kinds.Cell.{Cell}
@@ -18,8 +18,8 @@ use Rattle.rules.proofs.Tests.{clash, test, cond-cases, false-if}
 use Rattle.rules.proofs.Lists.{put-cases, put-same, All-map, All-keep}
 use Rattle.rules.proofs.Masks.{has-without-other}
 use Rattle.rules.proofs.Board.{Write, pick, here, notBy}
-use Rattle.rules.proofs.Invariant.{owns, shares, copies, CellOk, BlockOk}
-use Rattle.rules.proofs.Table.{kinds, state, Calm, idle-calm, filled, asks}
+use Rattle.rules.proofs.Invariant.{owns, CellOk, BlockOk}
+use Rattle.rules.proofs.States.{kinds, state, Calm, idle-calm, filled, asks}
 
 -- a calm cell is all right beside anything
 pub calm-ok : (cards owner sharers memory current k : ℕ) (x : Cell) → Calm (x .state) → (eqb (x .state) I ≡ false → k < cards)

@@ -1,28 +1,27 @@
--- Demand 3: every run from an accepted Start is coherent. And what Start makes.
+-- Demand 3: every run from an accepted Start is coherent.
 use Prim.Native.Nat.{ℕ, _≤_}
 use native.Mathlib.Omega.{arith}
-use mathlib.Core.Bool.{Bool, true, false, cond, not, _||_, true≢false}
+use mathlib.Core.Bool.{true, not, _||_, true≢false}
 use mathlib.Core.List.{List, [], _∷_}
 use mathlib.Core.Path.{_≡_, refl, sym, _∙_, ap, subst}
 use mathlib.Core.Logic.{_≢_}
-use lib.Dec.{eqb, ltb, leb}
+use lib.Dec.{eqb}
 use borrow.Author.Tests.{not-false}
-use Rattle.rules.specs.Tests.{each, all, allOf}
+use Rattle.rules.specs.Tests.{allOf}
 use Rattle.rules.specs.Lists.{All}
 use Rattle.rules.specs.Numbers.{home, granted, putTaken}
-use Rattle.rules.specs.Table.{loads, stores}
-use Rattle.rules.specs.Chassis.{Block, Chassis, cellOf, stateOf, idle, fresh, freshBlock}
-use Rattle.rules.specs.Answers.{refusalNo, refusalOf, Outcome, outcome, Reason, refusedBy}
+use Rattle.rules.specs.Table.{loads}
+use Rattle.rules.specs.Chassis.{Chassis, cellOf, stateOf, fresh}
+use Rattle.rules.specs.Answers.{refusalNo, Outcome}
 use Rattle.rules.specs.Order.{orderReasons}
-use Rattle.rules.specs.Formed.{sizes, homeOrCard, unusedBlock, wellFormed}
-use Rattle.rules.specs.Events.{noCard, noBlock, rightReasons, noMessage, reasons, ask, deliver, effect, step, start}
-use Rattle.rules.specs.History.{Did, loaded, stored, settles, rejoined, quiet, headBlock, accepted, did, Run, run, written}
+use Rattle.rules.specs.Formed.{wellFormed}
+use Rattle.rules.specs.Events.{noCard, noBlock, rightReasons, noMessage, reasons, effect, step}
+use Rattle.rules.specs.History.{Did, loaded, settles, quiet, headBlock, accepted, did, Run, run, written}
 use Rattle.rules.specs.Demand.{Coherent}
-use Rattle.rules.specs.Claims.{Start-formed, Refused-start, Demand-3}
+use Rattle.rules.specs.Claims.{Demand-3}
 use Rattle.rules.specs.declared.kinds.Request.{Request}
 use Rattle.rules.specs.declared.kinds.Answer.{Answer}
 use Rattle.rules.specs.declared.kinds.Answer.the-variants.{Done, Refused}
-use Rattle.rules.specs.declared.kinds.Refusal.{Refusal}
 use Rattle.rules.specs.declared.kinds.Refusal.the-variants.{Impossible, IllFormed}
 use Rattle.rules.specs.declared.kinds.Event.{Event}
 use Rattle.rules.specs.declared.kinds.Event.the-variants.{
@@ -35,63 +34,28 @@ use Rattle.rules.specs.declared.kinds.Event.the-variants.{
   Copy,
   Rejoin,
 }
-use Rattle.rules.proofs.Tests.{clash, test, cond-cases, false-if}
+use Rattle.rules.proofs.Tests.{clash, cond-cases, false-if}
 use Rattle.rules.proofs.Lists.{All-map}
-use Rattle.rules.proofs.Masks.{none-inside}
 use Rattle.rules.proofs.Board.{pending, base, pick, current}
 use Rattle.rules.proofs.Invariant.{RequestOk, Inv}
 use Rattle.rules.proofs.Blocks.{idle-ok, one-storer}
 use Rattle.rules.proofs.Holders.{held-not, possible, loader-only, load-current}
 use Rattle.rules.proofs.Stores.{LoadOk, Past, past-empty, past-more, struck-unseen}
-use Rattle.rules.proofs.Refusals.{None, refused-cases, IsDone, effect-done, Never, never-first, never-given, never-listed}
+use Rattle.rules.proofs.Refusals.{
+  None,
+  refused-cases,
+  effect-done,
+  Never,
+  never-first,
+  never-given,
+  never-listed,
+}
 use Rattle.rules.proofs.Steps.{step-ok}
-use Rattle.rules.proofs.Formed.{idle-wf, idle-unused, sizes→, →unused, →wf}
+use Rattle.rules.proofs.Formed.{sizes→}
+use Rattle.rules.proofs.Start.{start-cases, refused≢done, fresh-formed}
 use Rattle.rules.proofs.Stays.{stays-formed}
 
--- Start
-
--- an accepted Start has sizes in range, and makes a fresh chassis
-start-cases : (cards blocks : ℕ) (P : Outcome → Type 0)
-    → (sizes cards blocks ≡ true → P (outcome (Done 0) (fresh cards blocks)))
-    → ((r : Refusal) → P (outcome (Refused r) (fresh 0 0))) → P (start cards blocks)
-unfolding start
-start-cases cards blocks P f g = refused-cases (fresh 0 0) P _ (outcome (Done 0) (fresh cards blocks))
-    g (λ h. f (not-false (sizes cards blocks) (h .0)))
-
-refused≢done : (r : Refusal) (v : ℕ) → Refused r ≢ Done v
-refused≢done r v e = subst IsDone (sym e) tt
-
-fresh-formed : (cards blocks : ℕ) → sizes cards blocks ≡ true → wellFormed (fresh cards blocks) ≡ true
-unfolding homeOrCard
-fresh-formed cards blocks h = →wf (fresh cards blocks) (record {
-  size = h;
-  line-room = omega arith;
-  pool-room = omega arith;
-  requests = tt;
-  messages = tt;
-  used = λ b l u. record {
-    owner = refl;
-    sharers = none-inside cards;
-    places = λ k l8. record { used = λ _. idle-wf 0; unused = λ _. idle-unused };
-  };
-  unused = λ b l u. →unused freshBlock (record { memory = refl; owner = refl; sharers = refl; cells = λ _ _. idle-unused });
-})
-
-pub start-formed : Start-formed
-start-formed cards blocks = start-cases cards blocks (λ o. o .answer ≡ Done 0 → wellFormed (o .after) ≡ true)
-    (λ h _. fresh-formed cards blocks h) (λ r e. absurd (refused≢done r 0 e))
-
--- no event is accepted without a card
-no-cards : wellFormed (fresh 0 0) ≡ false
-unfolding wellFormed each sizes
-no-cards = refl
-
-pub refused-start : Refused-start
-unfolding step refusedBy
-refused-start cards blocks r = start-cases cards blocks
-    (λ o. o .answer ≡ Refused r → (e : Event) → step (o .after) e ≡ outcome (Refused IllFormed) (o .after))
-    (λ _ h. absurd (refused≢done r 0 (sym h)))
-    (λ _ _ e. rw no-cards)
+-- The beginning
 
 -- a fresh chassis has done nothing yet
 fresh-ok : (cards blocks : ℕ) → cards ≤ home → Inv (fresh cards blocks) []
@@ -144,7 +108,7 @@ module _ {c : Chassis} {log : List Did} (inv : Inv c log) where
 
   -- 13 is never given
   order-never : (l : List Request) → c .line ≡ l → Never (refusalNo Impossible) (orderReasons c l)
-  unfolding orderReasons refusalNo allOf
+  unfolding orderReasons allOf
   order-never [] at = never-listed 13 _ refl
   order-never (r ∷ rest) at =
       let ok = inv .blocks-ok (r .block) in
@@ -155,7 +119,7 @@ module _ {c : Chassis} {log : List Did} (inv : Inv c log) where
       never-listed 13 _ refl)))
 
   reasons-never : (e : Event) → Never (refusalNo Impossible) (reasons c e)
-  unfolding reasons rightReasons noCard noBlock noMessage refusalNo allOf
+  unfolding reasons rightReasons noCard noBlock noMessage allOf
   reasons-never (Load k b) = never-listed 13 _ refl
   reasons-never (Store k b v) = never-listed 13 _ refl
   reasons-never (Drop k b) = never-listed 13 _ refl
@@ -166,18 +130,18 @@ module _ {c : Chassis} {log : List Did} (inv : Inv c log) where
   reasons-never (Rejoin k) = never-listed 13 _ refl
 
   never-impossible : (e : Event) → step c e .answer ≢ Refused Impossible
-  unfolding step refusalNo
+  unfolding step
   never-impossible e = never-given c Impossible _ (effect c e)
       (never-first 13 _ _ (λ _. omega arith) (λ _. reasons-never e)) (effect-done c e)
 
 -- 15 is given for an ill formed state alone
 order-formed : (c : Chassis) (l : List Request) → Never (refusalNo IllFormed) (orderReasons c l)
-unfolding orderReasons refusalNo allOf
+unfolding orderReasons allOf
 order-formed c [] = never-listed 15 _ refl
 order-formed c (r ∷ rest) = never-listed 15 _ refl
 
 reasons-formed : (c : Chassis) (e : Event) → Never (refusalNo IllFormed) (reasons c e)
-unfolding reasons rightReasons noCard noBlock noMessage refusalNo allOf
+unfolding reasons rightReasons noCard noBlock noMessage allOf
 reasons-formed c (Load k b) = never-listed 15 _ refl
 reasons-formed c (Store k b v) = never-listed 15 _ refl
 reasons-formed c (Drop k b) = never-listed 15 _ refl
@@ -188,7 +152,7 @@ reasons-formed c (Copy i) = never-listed 15 _ refl
 reasons-formed c (Rejoin k) = never-listed 15 _ refl
 
 never-ill-formed : (c : Chassis) → wellFormed c ≡ true → (e : Event) → step c e .answer ≢ Refused IllFormed
-unfolding step refusalNo
+unfolding step
 never-ill-formed c w e = never-given c IllFormed _ (effect c e)
     (never-first 15 _ _ (λ p _. true≢false (sym p ∙ ap not w)) (λ _. reasons-formed c e)) (effect-done c e)
 

@@ -2,7 +2,7 @@
 use Prim.Native.Nat.{ℕ, _≤_, _<_}
 use native.Mathlib.Omega.{arith}
 use mathlib.Core.Bool.{Bool, true, false, cond, not}
-use mathlib.Core.List.{List, [], _∷_}
+use mathlib.Core.List.{[], _∷_}
 use mathlib.Core.Path.{_≡_, refl}
 use lib.ListN.{length}
 use lib.Dec.{eqb, ltb, leb}
@@ -12,7 +12,7 @@ use Rattle.rules.specs.Lists.{All}
 use Rattle.rules.specs.Masks.{every, inside}
 use Rattle.rules.specs.Numbers.{mostCards, mostBlocks, home, room, lastRetry, gets, putx, states}
 use Rattle.rules.specs.Table.{loads, waits}
-use Rattle.rules.specs.Chassis.{Block, Chassis, idle, fresh, goes, goesFor}
+use Rattle.rules.specs.Chassis.{Block, Chassis, idle, goes, goesFor}
 use Rattle.rules.specs.Formed.{
   sizes,
   homeOrCard,
@@ -52,8 +52,10 @@ cell→ last x h =
 
 pub →cell : (last : ℕ) (x : Cell) → CellWf last x → okCell last x ≡ true
 unfolding okCell
-→cell last x h = →each _ (lt-ltb (x .state) states (h .code),
-    (le-leb (x .awaits .0) last (h .given), (h .awaited, (h .unawaited, (h .unloaded, tt)))))
+→cell last x h = →each _ (
+  lt-ltb (x .state) states (h .code),
+  (le-leb (x .awaits .0) last (h .given), (h .awaited, (h .unawaited, (h .unloaded, tt)))),
+)
 
 -- a cell that goes to a state
 pub goesFor-wf : (last n s : ℕ) (x : Cell) → s < states → n ≤ last → (waits s ⇒ not (eqb n 0)) ≡ true
@@ -129,10 +131,19 @@ block→ cards last B h =
 
 pub →block : (cards last : ℕ) (B : Block) → BlockWf cards last B → okBlock cards last B ≡ true
 unfolding okBlock
-→block cards last B h = →each _ (h .owner, (h .sharers, (all-intro mostCards (placeTest cards last B) (λ k l.
-    cond-cases (λ t. t ≡ true) (ltb k cards) (okCell last (B .cell k)) (unusedCell (B .cell k))
-    (λ p. →cell last (B .cell k) (h .places k l .used (ltb-true k cards p)))
-    (λ p. h .places k l .unused (ltb-false k cards p))), tt)))
+→block cards last B h = →each _ (
+  h .owner,
+  (
+    h .sharers,
+    (
+      all-intro mostCards (placeTest cards last B) (λ k l.
+          cond-cases (λ t. t ≡ true) (ltb k cards) (okCell last (B .cell k)) (unusedCell (B .cell k))
+          (λ p. →cell last (B .cell k) (h .places k l .used (ltb-true k cards p)))
+          (λ p. h .places k l .unused (ltb-false k cards p))),
+      tt,
+    ),
+  ),
+)
 
 pub grow-block : (cards last last′ : ℕ) (B : Block) → last ≤ last′ → BlockWf cards last B → BlockWf cards last′ B
 grow-block cards last last′ B le h = record {
@@ -164,8 +175,16 @@ unused→ B h =
 
 pub →unused : (B : Block) → BlockUnused B → unusedBlock B ≡ true
 unfolding unusedBlock
-→unused B h = →each _ (rw (h .memory), (rw (h .owner), (rw (h .sharers),
-    (all-intro mostCards (λ k. unusedCell (B .cell k)) (h .cells), tt))))
+→unused B h = →each _ (
+  rw (h .memory),
+  (
+    rw (h .owner),
+    (
+      rw (h .sharers),
+      (all-intro mostCards (λ k. unusedCell (B .cell k)) (h .cells), tt),
+    ),
+  ),
+)
 
 -- Requests and messages
 
@@ -195,9 +214,22 @@ request→ cards blocks r h =
 
 pub →request : (cards blocks : ℕ) (r : Request) → RequestWf cards blocks r → okRequest cards blocks r ≡ true
 unfolding okRequest
-→request cards blocks r h = →each _ (lt-ltb (r .card) cards (h .card), (lt-ltb (r .block) blocks (h .block),
-    (le-leb gets (r .kind) (h .low), (le-leb (r .kind) putx (h .high), (h .mask,
-    (le-leb (r .retry .0) lastRetry (h .retry), (h .full, tt)))))))
+→request cards blocks r h = →each _ (
+  lt-ltb (r .card) cards (h .card),
+  (
+    lt-ltb (r .block) blocks (h .block),
+    (
+      le-leb gets (r .kind) (h .low),
+      (
+        le-leb (r .kind) putx (h .high),
+        (
+          h .mask,
+          (le-leb (r .retry .0) lastRetry (h .retry), (h .full, tt)),
+        ),
+      ),
+    ),
+  ),
+)
 
 pub record MessageWf (cards blocks last : ℕ) (m : Message) : Type 0 where
   pub sender : homeOrCard cards (m .sender) ≡ true
@@ -221,8 +253,13 @@ message→ cards blocks last m h =
 
 pub →message : (cards blocks last : ℕ) (m : Message) → MessageWf cards blocks last m → okMessage cards blocks last m ≡ true
 unfolding okMessage
-→message cards blocks last m h = →each _ (h .sender, (lt-ltb (m .receiver) cards (h .receiver),
-    (lt-ltb (m .block) blocks (h .block), (h .numbered, (le-leb (m .number .0) last (h .given), tt)))))
+→message cards blocks last m h = →each _ (
+  h .sender,
+  (
+    lt-ltb (m .receiver) cards (h .receiver),
+    (lt-ltb (m .block) blocks (h .block), (h .numbered, (le-leb (m .number .0) last (h .given), tt))),
+  ),
+)
 
 pub grow-message : (cards blocks last last′ : ℕ) (m : Message) → last ≤ last′ → okMessage cards blocks last m ≡ true
     → okMessage cards blocks last′ m ≡ true
@@ -287,9 +324,24 @@ wf→ c h =
 
 pub →wf : (c : Chassis) → Wf c → wellFormed c ≡ true
 unfolding wellFormed
-→wf c w = →each _ (w .size, (le-leb (length (c .line)) room (w .line-room), (le-leb (length (c .pool)) room (w .pool-room),
-    (→allOf (okRequest (c .cards) (c .blocks)) (c .line) (w .requests),
-    (→allOf (okMessage (c .cards) (c .blocks) (c .last .0)) (c .pool) (w .messages),
-    (all-intro mostBlocks (blockTest c) (λ b l. test (ltb b (c .blocks))
-    (λ u. rw u (→block (c .cards) (c .last .0) (c .block b) (w .used b l (ltb-true b (c .blocks) u))))
-    (λ u. rw u (w .unused b l (ltb-false b (c .blocks) u)))), tt))))))
+→wf c w = →each _ (
+  w .size,
+  (
+    le-leb (length (c .line)) room (w .line-room),
+    (
+      le-leb (length (c .pool)) room (w .pool-room),
+      (
+        →allOf (okRequest (c .cards) (c .blocks)) (c .line) (w .requests),
+        (
+          →allOf (okMessage (c .cards) (c .blocks) (c .last .0)) (c .pool) (w .messages),
+          (
+            all-intro mostBlocks (blockTest c) (λ b l. test (ltb b (c .blocks))
+                (λ u. rw u (→block (c .cards) (c .last .0) (c .block b) (w .used b l (ltb-true b (c .blocks) u))))
+                (λ u. rw u (w .unused b l (ltb-false b (c .blocks) u)))),
+            tt,
+          ),
+        ),
+      ),
+    ),
+  ),
+)

@@ -2,21 +2,21 @@
 use Prim.Native.Nat.{ℕ, _≤_}
 use native.Mathlib.Omega.{arith}
 use mathlib.Core.Bool.{Bool, true, false, not, _&&_}
-use mathlib.Core.List.{List, [], _∷_}
+use mathlib.Core.List.{List}
 use mathlib.Core.Path.{_≡_, refl, sym, _∙_, ap, subst}
 use mathlib.Core.Logic.{_≢_}
 use lib.Dec.{eqb}
 use borrow.Author.Tests.{eqb-true, eqb-false, eq-eqb, ne-eqb}
 use Rattle.rules.specs.Numbers.{home, I, putx}
-use Rattle.rules.specs.Table.{loads, stores, waits, gives, comesFrom, putStands}
+use Rattle.rules.specs.Table.{loads, stores, waits, gives, comesFrom}
 use Rattle.rules.specs.Chassis.{Block}
 use Rattle.rules.specs.Order.{held, impossible, given}
 use Rattle.rules.specs.declared.kinds.Request.{Request}
 use Rattle.rules.proofs.Tests.{clash, test, false-if, →any, some-false}
 use Rattle.rules.proofs.Board.{Write, pick, here}
 use Rattle.rules.proofs.Invariant.{owns, shares, BlockOk}
-use Rattle.rules.proofs.Table.{state, Calm, idle-calm, asking}
-use Rattle.rules.proofs.Blocks.{stores-own, one-owner, one-storer, no-writes}
+use Rattle.rules.proofs.States.{state, Calm, idle-calm, asking}
+use Rattle.rules.proofs.Blocks.{stores-own, one-owner, no-writes}
 
 module _ {cards : ℕ} {B : Block} {ws : List Write} {d : ℕ} (ok : BlockOk cards B ws d) (few : cards ≤ home) where
   -- a card that is not idle is not home
@@ -107,16 +107,25 @@ module _ {cards : ℕ} {B : Block} {ws : List Write} {d : ℕ} (ok : BlockOk car
         (λ p. rw p (ne-eqb o q (not-owner q (a .there) p))) in
         let owner-gives : eqb o home ≡ false → gives (B .cell o .state) ≡ true
         = λ f. state (B .cell o .state) (ok .cells o .code) .stores-gives (owner-stores (eqb-false o home f)) in
-        →any _ (rw w,
-        (test put (λ e. rw e) (λ e. rw (e, agree, a .owns-not e)),
-        (test put (λ e. rw e) (λ e. test (eqb o home) (λ f. rw (e, f)) (λ f. rw (e, f, owner-gives f))),
-        (rw (a .put-owns, agree) (never put (owns s)),
-        (rw (a .put-owns, agree) (nor put (owns s)), tt)))))
+        →any _ (
+          rw w,
+          (
+            test put (λ e. rw e) (λ e. rw (e, agree, a .owns-not e)),
+            (
+              test put (λ e. rw e) (λ e. test (eqb o home) (λ f. rw (e, f)) (λ f. rw (e, f, owner-gives f))),
+              (
+                rw (a .put-owns, agree) (never put (owns s)),
+                (rw (a .put-owns, agree) (nor put (owns s)), tt),
+              ),
+            ),
+          ),
+        )
       where
         never : (p o : Bool) → (p && o && not o) ≡ false
         never true true = refl
         never true false = refl
         never false o = refl
+
         nor : (p o : Bool) → (p && not o && o) ≡ false
         nor true true = refl
         nor true false = refl

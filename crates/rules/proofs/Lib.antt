@@ -1,10 +1,12 @@
+-- The proofs: first M1 to M10, then the laws from the bottom up, then demand 3.
+pub mod Marked
 pub mod Tests
 pub mod Lists
 pub mod Masks
-pub mod Marked
+pub mod Columns
 pub mod Board
 pub mod Invariant
-pub mod Table
+pub mod States
 pub mod Blocks
 pub mod Holders
 pub mod Turns
@@ -13,4 +15,5 @@ pub mod Steps
 pub mod Stores
 pub mod Formed
 pub mod Stays
+pub mod Start
 pub mod Demand

@@ -1,6 +1,7 @@
 -- M1 to M10 hold of the rules: antt plays them.
+use mathlib.Core.Bool.{Bool}
+use mathlib.Core.List.{List}
 use mathlib.Core.Path.{refl}
-use lib.Bits.{bitOr, bitAnd, bitXor, bitwise, digits}
 use Rattle.rules.specs.Tests.{each, any, all, some, allOf}
 use Rattle.rules.specs.Lists.{put, removed, keep}
 use Rattle.rules.specs.Masks.{has, only, every, both, without, inside}
@@ -19,7 +20,8 @@ use Rattle.rules.specs.Table.{
   grantedTo,
   filledTo,
 }
-use Rattle.rules.specs.Answers.{refusalNo, refusalOf, valueOf, refusedBy}
+use Rattle.rules.specs.Chassis.{fresh}
+use Rattle.rules.specs.Answers.{refusedBy}
 use Rattle.rules.specs.Order.{
   held,
   impossible,
@@ -71,14 +73,23 @@ use Rattle.rules.specs.Events.{
   step,
   start,
 }
-use Rattle.rules.specs.Marked.{table, plays}
-use Rattle.rules.specs.Claims.{Marked-hold}
+use Rattle.rules.specs.Marked.{Line, plays, table, slips}
+use Rattle.rules.specs.Claims.{Marked-hold, Slips-hold}
 
-pub marked-hold : Marked-hold
-unfolding table plays each any all some allOf put removed keep has only every both without inside loads stores
-    asked seesGets seesGetx drops waits reads gives comesFrom putStands grantedTo filledTo refusalNo refusalOf
-    valueOf refusedBy held impossible noRoomFor orderReasons suffices turn outcomeNo given memoryAfter
+-- a table played by the rules: who unfolds this unfolds all of them
+played : List (List Line) → Bool
+unfolding plays each any all some allOf put removed keep has only every both without inside loads stores
+    asked seesGets seesGetx drops waits reads gives comesFrom putStands grantedTo filledTo
+    refusedBy held impossible noRoomFor orderReasons suffices turn outcomeNo given memoryAfter
     ownerAfter sharersAfter askerSees ownerSees readerSees sees ordered dataFor sent retryMask retried again
     orderHead order sizes homeOrCard okCell unusedCell okBlock unusedBlock okRequest okMessage wellFormed
     noCard noBlock rightReasons noMessage reasons ask live deliver rejoinBlock rejoin effect step start
+played t = allOf t (plays (fresh 0 0))
+
+pub marked-hold : Marked-hold
+unfolding played table
 marked-hold = refl
+
+pub slips-hold : Slips-hold
+unfolding played slips
+slips-hold = refl

@@ -1,13 +1,13 @@
 -- The members of a mask.
-use Prim.Native.Nat.{ℕ, zero, suc, _+_, _-_, _*_, _/_, _%_, _^_, _≤_, _<_, min, max}
+use Prim.Native.Nat.{ℕ, suc, _+_, _-_, _*_, _/_, _%_, _^_, _<_}
 use native.Mathlib.Omega.{arith}
-use native.Mathlib.Nat.{div-self, div-eq-of-lt, pow-suc, mul-mod-right}
-use mathlib.Core.Bool.{Bool, true, false, cond, not, _&&_, _||_, true≢false}
-use mathlib.Core.Path.{_≡_, refl, sym, _∙_, ap, subst}
+use native.Mathlib.Nat.{div-self, div-eq-of-lt, pow-suc}
+use mathlib.Core.Bool.{true, false, not, _&&_, _||_}
+use mathlib.Core.Path.{_≡_, refl, sym, subst}
 use mathlib.Core.Logic.{_≢_}
-use lib.Dec.{leb, ltb, eqb}
+use lib.Dec.{ltb, eqb}
 use lib.Pow.{pow-pos, pow-lt, pow-add, shl-shr, ones-lt, ones-split, high}
-use lib.Bits.{bitAnd, bitOr, bitXor, or-shr, or-mod, and-shr, and-mod, xor-shr, xor-mod, shifted-even, or-lt, and-lt, xor-lt}
+use lib.Bits.{bitAnd, bitOr, bitXor, or-shr, or-mod, and-shr, and-mod, xor-shr, xor-mod, or-lt, and-lt, xor-lt}
 use borrow.Author.Tests.{eqb-true, eqb-false, ltb-true, ltb-false, lt-ltb}
 use Rattle.rules.specs.Masks.{has, only, every, both, without, inside}
 use Rattle.rules.proofs.Tests.{test, or-i}
@@ -42,8 +42,10 @@ unfolding has only
 has-only-other q k d = test (ltb q k)
     (λ e. rw (div-eq-of-lt (pow-lt (ltb-true q k e))))
     (λ e. let h = ltb-false q k e in
-    let g : q ≡ suc (q - k - 1) + k = omega arith in
-    rw g (rw (pow-add 2 (suc (q - k - 1)) k) (rw (shl-shr (2 ^ suc (q - k - 1)) k) (rw (pow-suc 2 (q - k - 1)) (let z : 2 ^ (q - k - 1) * 2 % 2 ≡ 0 = omega arith in rw z)))))
+    let n = q - k - 1 in
+    let g : q ≡ suc n + k = omega arith in
+    let even : 2 ^ n * 2 % 2 ≡ 0 = omega arith in
+    rw g (rw (pow-add 2 (suc n) k) (rw (shl-shr (2 ^ suc n) k) (rw (pow-suc 2 n) (rw even)))))
 
 pub has-both-l : (a b k : ℕ) → has a k ≡ true → has (both a b) k ≡ true
 has-both-l a b k h = rw (has-both a b k, h)
@@ -53,6 +55,15 @@ has-both-r a b k h = rw (has-both a b k, h) (or-i {a = has a k} (λ _. refl))
 
 pub has-without-other : (a q k : ℕ) → q ≢ k → has a k ≡ true → has (without a (only q)) k ≡ true
 has-without-other a q k d h = rw (has-without a (only q) k, h, has-only-other q k d)
+
+pub has-every : (n k : ℕ) → k < n → has (every n) k ≡ true
+unfolding has every
+has-every n k l =
+    let m = n - k - 1 in
+    let e : n ≡ suc m + k = omega arith in
+    let p = pow-pos m in
+    let odd : (2 ^ suc m - 1) % 2 ≡ 1 = omega arith in
+    rw e (rw (ones-split (suc m) k) (rw (high (2 ^ suc m - 1) k (ones-lt k)) (rw odd)))
 
 -- Masks of the cards that are there
 
@@ -77,9 +88,3 @@ every-inside n = lt-ltb (2 ^ n - 1) (2 ^ n) (ones-lt n)
 pub none-inside : (n : ℕ) → inside n 0 ≡ true
 unfolding inside
 none-inside n = lt-ltb 0 (2 ^ n) (pow-pos n)
-
-pub has-every : (n k : ℕ) → k < n → has (every n) k ≡ true
-unfolding has every
-has-every n k l =
-    let e : n ≡ suc (n - k - 1) + k = omega arith in
-    rw e (rw (ones-split (suc (n - k - 1)) k) (rw (high (2 ^ suc (n - k - 1) - 1) k (ones-lt k)) (let p = pow-pos (n - k - 1) in let z : (2 ^ suc (n - k - 1) - 1) % 2 ≡ 1 = omega arith in rw z)))

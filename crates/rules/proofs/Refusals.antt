@@ -1,9 +1,8 @@
 -- Refusals: what holds where an event is refused, and where none of its reasons holds.
 use Prim.Native.Nat.{ℕ}
-use native.Mathlib.Omega.{arith}
-use mathlib.Core.Bool.{Bool, true, false, not, true≢false}
+use mathlib.Core.Bool.{Bool, true, false, not}
 use mathlib.Core.List.{List, [], _∷_}
-use mathlib.Core.Path.{_≡_, refl, sym, _∙_, ap, subst}
+use mathlib.Core.Path.{_≡_, refl, ap, subst}
 use mathlib.Core.Logic.{_≢_}
 use lib.Dec.{eqb}
 use borrow.Author.Tests.{eq-eqb, not-true}
@@ -85,7 +84,7 @@ never-first n r rs f g = (f, g)
 
 pub never-given : (c : Chassis) (x : Refusal) (rs : List Reason) (done : Outcome) → Never (refusalNo x) rs → IsDone (done .answer)
     → refusedBy c rs done .answer ≢ Refused x
-unfolding refusedBy refusalOf Never
+unfolding refusedBy Never
 never-given c x [] done h d = λ e. subst IsDone e d
 never-given c x (r ∷ rs) done h d =
     cond-cases (λ o. o .answer ≢ Refused x) (r .holds) (outcome (Refused (r .why)) c) (refusedBy c rs done)

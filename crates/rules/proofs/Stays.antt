@@ -4,15 +4,25 @@ use native.Mathlib.Omega.{arith}
 use mathlib.Core.Bool.{Bool, true, false, cond, not, _&&_, _||_, true≢false}
 use mathlib.Core.List.{List, [], _∷_, _++_, append-nil}
 use mathlib.Core.Path.{_≡_, refl, sym, subst}
-use mathlib.Core.Logic.{_≢_}
 use lib.ListN.{length, length-append}
-use lib.Dec.{eqb, ltb, leb}
+use lib.Dec.{eqb, leb}
 use borrow.Author.Tests.{eqb-true, eqb-false, eq-eqb, ne-eqb, ltb-true, lt-ltb, le-leb, leb-true, leb-false, not-false}
-use Rattle.rules.specs.Tests.{_⇒_, all}
+use Rattle.rules.specs.Tests.{_⇒_}
 use Rattle.rules.specs.Lists.{removed, keep, All}
-use Rattle.rules.specs.Masks.{has, only, every, both, without, inside}
-use Rattle.rules.specs.Numbers.{mostCards, mostBlocks, home, room, lastNumber, lastRetry, gets, putx, none}
-use Rattle.rules.specs.Table.{loads, stores, drops, waits, reads, asked, comesFrom, putStands, grantedTo, seesGets, seesGetx}
+use Rattle.rules.specs.Masks.{has, only, every, without, inside}
+use Rattle.rules.specs.Numbers.{mostCards, home, room, lastRetry, gets, putx, none}
+use Rattle.rules.specs.Table.{
+  loads,
+  stores,
+  waits,
+  reads,
+  asked,
+  comesFrom,
+  putStands,
+  grantedTo,
+  seesGets,
+  seesGetx,
+}
 use Rattle.rules.specs.Chassis.{
   Block,
   Chassis,
@@ -100,7 +110,7 @@ use Rattle.rules.proofs.Masks.{
   every-inside,
   none-inside,
 }
-use Rattle.rules.proofs.Table.{state, gets-quiet, getx-quiet, filled, asking, asks}
+use Rattle.rules.proofs.States.{state, gets-quiet, getx-quiet, filled, asking, asks}
 use Rattle.rules.proofs.Refusals.{None, refused-cases}
 use Rattle.rules.proofs.Steps.{live-waits}
 use Rattle.rules.proofs.Turns.{sees-cases}
@@ -278,9 +288,11 @@ module _ {c : Chassis} (w : Wf c) where
       changed-wf b _ (c .line ++ r ∷ []) (c .pool) (c .last .0) b< (omega arith)
       (cell-wf k b (goes (asked kind s) (cellOf c k b)) k< b< (goes-wf (c .last .0) (asked kind s) (cellOf c k b) (t .code) (t .waits-not)))
       (rw (length-append (c .line) (r ∷ [])) (omega arith)) (w .pool-room)
-      (All-append (λ r. okRequest (c .cards) (c .blocks) r ≡ true) (c .line) (r ∷ []) (w .requests)
-      (→request (c .cards) (c .blocks) r
-      (record { card = k<; block = b<; low = lo; high = hi; mask = m; retry = omega arith; full = refl }), tt))
+      (All-append (λ r. okRequest (c .cards) (c .blocks) r ≡ true) (c .line) (r ∷ []) (w .requests) (
+        →request (c .cards) (c .blocks) r
+            (record { card = k<; block = b<; low = lo; high = hi; mask = m; retry = omega arith; full = refl }),
+        tt,
+      ))
       (w .messages)
 
   -- Deliver and Copy

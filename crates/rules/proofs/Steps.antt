@@ -8,7 +8,7 @@ use mathlib.Core.Logic.{_≢_}
 use lib.ListN.{length}
 use lib.Dec.{eqb, leb}
 use borrow.Author.Tests.{eqb-true, eq-eqb, ne-eqb, leb-true, leb-false, not-true, not-false}
-use Rattle.rules.specs.Tests.{_⇒_, all}
+use Rattle.rules.specs.Tests.{_⇒_}
 use Rattle.rules.specs.Lists.{put, removed, keep, All}
 use Rattle.rules.specs.Masks.{has}
 use Rattle.rules.specs.Numbers.{home, gets, getx, putx, none}
@@ -107,7 +107,7 @@ use Rattle.rules.proofs.Board.{
   base-other,
 }
 use Rattle.rules.proofs.Invariant.{BlockOk, MessageOk, RequestOk, Other, Distinct, Inv}
-use Rattle.rules.proofs.Table.{kinds, idle-calm, put-stores, lapsed-calm, filled, asking, asks}
+use Rattle.rules.proofs.States.{kinds, idle-calm, put-stores, lapsed-calm, filled, asking, asks}
 use Rattle.rules.proofs.Blocks.{store-block, drop-block, ask-block, fill-block, rejoin-block}
 use Rattle.rules.proofs.Holders.{held-not, given-current}
 use Rattle.rules.proofs.Turns.{

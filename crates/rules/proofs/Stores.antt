@@ -1,12 +1,12 @@
 -- The stores of a log: the last that counts is the current one, who loaded the unsettled ones, and how the struck ones came to be.
 use Prim.Native.Nat.{ℕ}
 use mathlib.Core.Bool.{Bool, true, false, cond, not, _&&_, true≢false}
-use mathlib.Core.List.{List, [], _∷_, _++_, map, List·Memᴰ, Memᴰ·cast}
+use mathlib.Core.List.{List, [], _∷_, map, List·Memᴰ, Memᴰ·cast}
 use mathlib.Core.Path.{_≡_, refl, sym, _∙_, ap}
 use mathlib.Core.Logic.{_≢_}
 use lib.Dec.{eqb}
-use borrow.Author.Tests.{eqb-true, eqb-false, eq-eqb, ne-eqb}
-use Rattle.rules.specs.Lists.{keep, All}
+use borrow.Author.Tests.{eqb-true, eqb-false, ne-eqb}
+use Rattle.rules.specs.Lists.{All}
 use Rattle.rules.specs.History.{
   Did,
   loaded,
@@ -19,7 +19,6 @@ use Rattle.rules.specs.History.{
   settled,
   struck,
   Written,
-  made,
   withFate,
   meets,
   settle,
@@ -302,8 +301,11 @@ unfolding written meets
 past-more log (loaded k b v) h p = record {
   loads-last = (h .0 ∙ sym (last-is-current b log), p .loads-last);
   unseen = loaded-all (λ w. Unseen w × Unsettled (λ j. j ≡ k) b w) Unseen k b (λ _ q. q .0)
-      (λ w c q n. (fate-cases (w .fate)
-      (λ u. sym (q .1 u (counts-block b w c))) (λ s. absurd (n s)) (λ s. absurd (counts-struck b w c s)), q .0 n))
+      (λ w c q n. (
+        fate-cases (w .fate)
+            (λ u. sym (q .1 u (counts-block b w c))) (λ s. absurd (n s)) (λ s. absurd (counts-struck b w c s)),
+        q .0 n,
+      ))
       (written log)
       (All-map₂ (λ w q u. (q, u)) (written log) (p .unseen) (unsettled-pending (λ j. j ≡ k) b log (h .1)));
   struck-ok = loaded-all (Struck log) (Struck (loaded k b v ∷ log)) k b

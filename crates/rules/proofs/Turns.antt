@@ -1,7 +1,7 @@
 -- Order, at the block of the head request: each of the six turns keeps the invariant.
 use Prim.Native.Nat.{ℕ, _≤_, _<_}
-use mathlib.Core.Bool.{Bool, true, false, cond, true≢false}
-use mathlib.Core.List.{List, [], _∷_}
+use mathlib.Core.Bool.{true, false, cond, true≢false}
+use mathlib.Core.List.{List, []}
 use mathlib.Core.Path.{_≡_, refl, sym, _∙_, subst}
 use mathlib.Core.Logic.{_≢_}
 use lib.Dec.{eqb}
@@ -36,7 +36,7 @@ use Rattle.rules.proofs.Lists.{All-map}
 use Rattle.rules.proofs.Masks.{has-both-l, has-both-r, has-only}
 use Rattle.rules.proofs.Board.{Write, pick, here}
 use Rattle.rules.proofs.Invariant.{owns, shares, CellOk, BlockOk}
-use Rattle.rules.proofs.Table.{
+use Rattle.rules.proofs.States.{
   state,
   Calm,
   idle-calm,

@@ -24,7 +24,7 @@ use Rattle.rules.specs.declared.kinds.Refusal.the-variants.{
   IllFormed,
 }
 
-unfoldable pub refusalNo : Refusal → ℕ
+abbrev pub refusalNo : Refusal → ℕ
 refusalNo NoSuchCard = 1
 refusalNo NoSuchBlock = 2
 refusalNo NoRight = 3
@@ -42,12 +42,12 @@ refusalNo NoSuchSize = 14
 refusalNo IllFormed = 15
 
 -- "the refusal or 0"
-unfoldable pub refusalOf : Answer → ℕ
+abbrev pub refusalOf : Answer → ℕ
 refusalOf (Done v) = 0
 refusalOf (Refused r) = refusalNo r
 
 -- "the value (a load's, an outcome, else 0)"; "An engine refusal answers value 0"
-unfoldable pub valueOf : Answer → ℕ
+abbrev pub valueOf : Answer → ℕ
 valueOf (Done v) = v
 valueOf (Refused r) = 0
 

@@ -1,6 +1,6 @@
 -- The chassis: home's part and the cards' cells block by block, the line, the pool, the last order number.
 use Prim.Native.Nat.{ℕ}
-use mathlib.Core.Bool.{Bool, cond}
+use mathlib.Core.Bool.{cond}
 use mathlib.Core.List.{List, []}
 use Rattle.rules.specs.Lists.{put}
 use Rattle.rules.specs.Numbers.{home, I}

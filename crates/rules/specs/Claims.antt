@@ -10,7 +10,7 @@ use Rattle.rules.specs.Formed.{wellFormed}
 use Rattle.rules.specs.Events.{step, start}
 use Rattle.rules.specs.History.{run}
 use Rattle.rules.specs.Demand.{Coherent}
-use Rattle.rules.specs.Marked.{table, plays}
+use Rattle.rules.specs.Marked.{plays, table, slips}
 use Rattle.rules.specs.declared.kinds.Answer.the-variants.{Done, Refused}
 use Rattle.rules.specs.declared.kinds.Refusal.{Refusal}
 use Rattle.rules.specs.declared.kinds.Refusal.the-variants.{IllFormed}
@@ -19,6 +19,10 @@ use Rattle.rules.specs.declared.kinds.Event.{Event}
 -- M1 to M10
 abbrev pub Marked-hold : Type 0
 Marked-hold = allOf table (plays (fresh 0 0)) ≡ true
+
+-- the slips that M1 to M10 do not show
+abbrev pub Slips-hold : Type 0
+Slips-hold = allOf slips (plays (fresh 0 0)) ≡ true
 
 -- Demand 1: "A refused event changes nothing in the chassis"
 abbrev pub Refused-keeps : Type 0

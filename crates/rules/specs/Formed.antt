@@ -1,7 +1,7 @@
 -- Well formed: "15 comes first wherever a state is handed in". A state is ill formed where one of these tests fails.
 use Prim.Native.Nat.{ℕ}
 use mathlib.Core.Bool.{Bool, cond, not, _||_}
-use mathlib.Core.List.{List, [], _∷_}
+use mathlib.Core.List.{[], _∷_}
 use lib.ListN.{length}
 use lib.Dec.{eqb, ltb, leb}
 use Rattle.rules.specs.Tests.{_⇒_, each, all, allOf}

@@ -177,3 +177,26 @@ m10 =
 unfoldable pub table : List (List Line)
 unfolding m1 m2 m3 m4 m5 m6 m7 m8 m9 m10
 table = m1 ∷ m2 ∷ m3 ∷ m4 ∷ m5 ∷ m6 ∷ m7 ∷ m8 ∷ m9 ∷ m10 ∷ []
+
+-- "Slips seen before": M3, M5 and M8 show three of them; these show what no marked sequence does
+
+-- "Testing 13 before 9: the owner of a held block may be in IM_D, so another card's GETS at the head would be called impossible"
+unfoldable pub heldComesFirst : List Line
+heldComesFirst =
+    starts 2 1 0 ∷
+    Ask 0 0 getx 0 gives 0 ∷
+    Ask 1 0 gets 0 gives 0 ∷
+    Order gives 1 ∷ isIn 0 IM-D ∷
+    Order refused 9 ∷ []
+
+-- an owner that gave its value to a GETS is still listed: after M3 card 1's GETX has to name card 0
+unfoldable pub oldOwnerIsListed : List Line
+unfolding m3
+oldOwnerIsListed = m3 ++
+    Deliver 0 gives 1 ∷
+    Ask 1 0 getx 0 gives 0 ∷
+    Order gives 2 ∷ headHas 1 3 ∷ isIn 0 S ∷ []
+
+unfoldable pub slips : List (List Line)
+unfolding heldComesFirst oldOwnerIsListed
+slips = heldComesFirst ∷ oldOwnerIsListed ∷ []

@@ -23,21 +23,21 @@ use Rattle.rules.specs.Numbers.{
 pub record Row : Type 0 where
   pub load : Bool
   pub store : Bool
-  pub asksGets : ℕ
-  pub asksGetx : ℕ
-  pub asksPutx : ℕ
-  pub ownerSeesGets : ℕ
-  pub seesAnothersGetx : ℕ
+  pub askGets : ℕ
+  pub askGetx : ℕ
+  pub askPutx : ℕ
+  pub seeGets : ℕ
+  pub seeGetx : ℕ
 
 abbrev row : Bool → Bool → ℕ → ℕ → ℕ → ℕ → ℕ → Row
-row load store asksGets asksGetx asksPutx ownerSeesGets seesAnothersGetx = record {
+row load store askGets askGetx askPutx seeGets seeGetx = record {
   load = load;
   store = store;
-  asksGets = asksGets;
-  asksGetx = asksGetx;
-  asksPutx = asksPutx;
-  ownerSeesGets = ownerSeesGets;
-  seesAnothersGetx = seesAnothersGetx;
+  askGets = askGets;
+  askGetx = askGetx;
+  askPutx = askPutx;
+  seeGets = seeGets;
+  seeGetx = seeGetx;
 }
 
 -- "An empty place means no right, or no move."
@@ -80,22 +80,36 @@ unfoldable pub stores : ℕ → Bool
 unfolding rowOf
 stores s = rowOf s .store
 
--- where an ask of this kind leads, or none
-unfoldable pub asked : ℕ → ℕ → ℕ
+-- where an ask of each kind leads, or none
+unfoldable pub asksGets : ℕ → ℕ
 unfolding rowOf
-asked kind s = getD (none ∷ rowOf s .asksGets ∷ rowOf s .asksGetx ∷ rowOf s .asksPutx ∷ []) kind none
+asksGets s = rowOf s .askGets
 
--- where a state goes that is to move to t: nowhere, where t is none
+unfoldable pub asksGetx : ℕ → ℕ
+unfolding rowOf
+asksGetx s = rowOf s .askGetx
+
+unfoldable pub asksPutx : ℕ → ℕ
+unfolding rowOf
+asksPutx s = rowOf s .askPutx
+
+-- where an ask of this kind leads; there is no ask of kind 0 or above 3
+unfoldable pub asked : ℕ → ℕ → ℕ
+unfolding asksGets asksGetx asksPutx
+asked kind s = getD (none ∷ asksGets s ∷ asksGetx s ∷ asksPutx s ∷ []) kind none
+
+-- where state s goes that is to move to t: nowhere, where t is none
 unfoldable pub moved : ℕ → ℕ → ℕ
 moved s t = cond (eqb t none) s t
 
+-- where a state goes that sees GETS as owner, or another's GETX
 unfoldable pub seesGets : ℕ → ℕ
 unfolding rowOf moved
-seesGets s = moved s (rowOf s .ownerSeesGets)
+seesGets s = moved s (rowOf s .seeGets)
 
 unfoldable pub seesGetx : ℕ → ℕ
 unfolding rowOf moved
-seesGetx s = moved s (rowOf s .seesAnothersGetx)
+seesGetx s = moved s (rowOf s .seeGetx)
 
 -- States that the rules name
 
@@ -133,9 +147,15 @@ unfolding oneOf
 putStands s = oneOf (MI-A ∷ []) s
 
 -- a granted GETS: "q goes to 6"; a granted GETX: "q goes from 4 to 7 or from 5 to 8"
+abbrev pub grants : List ℕ
+grants = none ∷ none ∷ none ∷ IS-D ∷ IM-D ∷ SM-D ∷ []
+
 unfoldable pub grantedTo : ℕ → ℕ
-grantedTo s = getD (none ∷ none ∷ none ∷ IS-D ∷ IM-D ∷ SM-D ∷ []) s none
+grantedTo s = getD grants s none
 
 -- data comes to 6, 7 or 8: it "goes to 1, 2 or 2"
+abbrev pub fills : List ℕ
+fills = none ∷ none ∷ none ∷ none ∷ none ∷ none ∷ S ∷ M ∷ M ∷ []
+
 unfoldable pub filledTo : ℕ → ℕ
-filledTo s = getD (none ∷ none ∷ none ∷ none ∷ none ∷ none ∷ S ∷ M ∷ M ∷ []) s none
+filledTo s = getD fills s none

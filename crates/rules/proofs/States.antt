@@ -1,11 +1,11 @@
 -- Facts of the card state table: each is one test of all states, proved by computing it. They hold of any table that passes the tests.
 use Prim.Native.Nat.{ℕ, _<_}
 use mathlib.Core.Bool.{Bool, true, false, not, _&&_, _||_, Bool·beq}
-use mathlib.Core.List.{List, [], _∷_}
+use mathlib.Core.List.{[], _∷_}
 use mathlib.Core.Path.{_≡_, refl, sym, ap}
-use lib.ListN.{getD, List·getD-eq-default}
+use lib.ListN.{List·getD-eq-default}
 use lib.Dec.{eqb, ltb}
-use borrow.Author.Tests.{eqb-true, ltb-true, ltb-false, not-true}
+use borrow.Author.Tests.{ltb-true, ltb-false, not-true}
 use Rattle.rules.specs.Tests.{_⇒_, each, all, oneOf}
 use Rattle.rules.specs.Numbers.{gets, getx, putx, I, states, none}
 use Rattle.rules.specs.Table.{

@@ -1,0 +1,440 @@
+// The card state table: a constant array for each column, read by a small function that takes any byte.
+// What a byte above the last state gives is what an empty row would.
+use crate::numbers::GETS;
+use crate::numbers::GETX;
+use crate::numbers::I;
+use crate::numbers::II_A;
+use crate::numbers::IM_AD;
+use crate::numbers::IM_D;
+use crate::numbers::IS_AD;
+use crate::numbers::IS_D;
+use crate::numbers::M;
+use crate::numbers::MI_A;
+use crate::numbers::NONE;
+use crate::numbers::PUTX;
+use crate::numbers::S;
+use crate::numbers::SM_AD;
+use crate::numbers::SM_D;
+ghost use mathlib.Core.Path.{_≡_};
+ghost use mathlib.Core.Bool.{true, false, cond};
+ghost use lib.ListN.{getD};
+ghost use lib.Dec.{ltb};
+ghost use Rattle.rules.specs.Numbers.{states, none};
+ghost use Rattle.rules.specs.Table.{
+  loads,
+  stores,
+  asksGets,
+  asksGetx,
+  asksPutx,
+  asked,
+  moved,
+  seesGets,
+  seesGetx,
+  drops,
+  waits,
+  reads,
+  gives,
+  comesFrom,
+  putStands,
+  grantedTo,
+  filledTo,
+};
+
+// Rights
+
+const LOADS: [bool; 11] = [
+    false, // I
+    true, // S
+    true, // M
+    false, // IS_AD
+    false, // IM_AD
+    true, // SM_AD
+    false, // IS_D
+    false, // IM_D
+    true, // SM_D
+    true, // MI_A
+    false, // II_A
+];
+
+const STORES: [bool; 11] = [
+    false, // I
+    false, // S
+    true, // M
+    false, // IS_AD
+    false, // IM_AD
+    false, // SM_AD
+    false, // IS_D
+    false, // IM_D
+    false, // SM_D
+    true, // MI_A
+    false, // II_A
+];
+
+// The next state, where each kind of ask leads
+
+const ASKS_GETS: [u8; 11] = [
+    IS_AD, // I
+    NONE, // S
+    NONE, // M
+    NONE, // IS_AD
+    NONE, // IM_AD
+    NONE, // SM_AD
+    NONE, // IS_D
+    NONE, // IM_D
+    NONE, // SM_D
+    NONE, // MI_A
+    NONE, // II_A
+];
+
+const ASKS_GETX: [u8; 11] = [
+    IM_AD, // I
+    SM_AD, // S
+    NONE, // M
+    NONE, // IS_AD
+    NONE, // IM_AD
+    NONE, // SM_AD
+    NONE, // IS_D
+    NONE, // IM_D
+    NONE, // SM_D
+    NONE, // MI_A
+    NONE, // II_A
+];
+
+const ASKS_PUTX: [u8; 11] = [
+    NONE, // I
+    NONE, // S
+    MI_A, // M
+    NONE, // IS_AD
+    NONE, // IM_AD
+    NONE, // SM_AD
+    NONE, // IS_D
+    NONE, // IM_D
+    NONE, // SM_D
+    NONE, // MI_A
+    NONE, // II_A
+];
+
+// The next state, where a seen request leads
+
+const SEES_GETS: [u8; 11] = [
+    NONE, // I
+    NONE, // S
+    S, // M
+    NONE, // IS_AD
+    NONE, // IM_AD
+    NONE, // SM_AD
+    NONE, // IS_D
+    NONE, // IM_D
+    NONE, // SM_D
+    II_A, // MI_A
+    NONE, // II_A
+];
+
+const SEES_GETX: [u8; 11] = [
+    NONE, // I
+    I, // S
+    I, // M
+    NONE, // IS_AD
+    NONE, // IM_AD
+    IM_AD, // SM_AD
+    NONE, // IS_D
+    NONE, // IM_D
+    NONE, // SM_D
+    II_A, // MI_A
+    NONE, // II_A
+];
+
+// States that the rules name
+
+const DROPS: [bool; 11] = [
+    false, // I
+    true, // S
+    false, // M
+    false, // IS_AD
+    false, // IM_AD
+    false, // SM_AD
+    false, // IS_D
+    false, // IM_D
+    false, // SM_D
+    false, // MI_A
+    false, // II_A
+];
+
+const WAITS: [bool; 11] = [
+    false, // I
+    false, // S
+    false, // M
+    false, // IS_AD
+    false, // IM_AD
+    false, // SM_AD
+    true, // IS_D
+    true, // IM_D
+    true, // SM_D
+    false, // MI_A
+    false, // II_A
+];
+
+const READS: [bool; 11] = [
+    false, // I
+    true, // S
+    false, // M
+    false, // IS_AD
+    false, // IM_AD
+    true, // SM_AD
+    false, // IS_D
+    false, // IM_D
+    false, // SM_D
+    false, // MI_A
+    false, // II_A
+];
+
+const GIVES: [bool; 11] = [
+    false, // I
+    false, // S
+    true, // M
+    false, // IS_AD
+    false, // IM_AD
+    false, // SM_AD
+    false, // IS_D
+    false, // IM_D
+    false, // SM_D
+    true, // MI_A
+    false, // II_A
+];
+
+const FROM_GETS: [bool; 11] = [
+    false, // I
+    false, // S
+    false, // M
+    true, // IS_AD
+    false, // IM_AD
+    false, // SM_AD
+    false, // IS_D
+    false, // IM_D
+    false, // SM_D
+    false, // MI_A
+    false, // II_A
+];
+
+const FROM_GETX: [bool; 11] = [
+    false, // I
+    false, // S
+    false, // M
+    false, // IS_AD
+    true, // IM_AD
+    true, // SM_AD
+    false, // IS_D
+    false, // IM_D
+    false, // SM_D
+    false, // MI_A
+    false, // II_A
+];
+
+const FROM_PUTX: [bool; 11] = [
+    false, // I
+    false, // S
+    false, // M
+    false, // IS_AD
+    false, // IM_AD
+    false, // SM_AD
+    false, // IS_D
+    false, // IM_D
+    false, // SM_D
+    true, // MI_A
+    true, // II_A
+];
+
+const PUT_STANDS: [bool; 11] = [
+    false, // I
+    false, // S
+    false, // M
+    false, // IS_AD
+    false, // IM_AD
+    false, // SM_AD
+    false, // IS_D
+    false, // IM_D
+    false, // SM_D
+    true, // MI_A
+    false, // II_A
+];
+
+const GRANTED_TO: [u8; 11] = [
+    NONE, // I
+    NONE, // S
+    NONE, // M
+    IS_D, // IS_AD
+    IM_D, // IM_AD
+    SM_D, // SM_AD
+    NONE, // IS_D
+    NONE, // IM_D
+    NONE, // SM_D
+    NONE, // MI_A
+    NONE, // II_A
+];
+
+const FILLED_TO: [u8; 11] = [
+    NONE, // I
+    NONE, // S
+    NONE, // M
+    NONE, // IS_AD
+    NONE, // IM_AD
+    NONE, // SM_AD
+    S, // IS_D
+    M, // IM_D
+    M, // SM_D
+    NONE, // MI_A
+    NONE, // II_A
+];
+
+// What a column of rights says of a state.
+fn right(column: &[bool; 11], state: u8) -> bool
+    ensures { λ r. ⌜ r ≡ cond (ltb state states) (getD (now (column .entry)) state false) false ⌝ }
+{
+    if state < 11 {
+        column[state as usize]
+    } else {
+        false
+    }
+}
+
+// Where a column of moves leads from a state.
+fn place(column: &[u8; 11], state: u8) -> u8
+    ensures { λ r. ⌜ r ≡ cond (ltb state states) (getD (now (column .entry)) state 0) none ⌝ }
+{
+    if state < 11 {
+        column[state as usize]
+    } else {
+        NONE
+    }
+}
+
+// Where a state goes that is to move: nowhere, at an empty place.
+fn moved(state: u8, to: u8) -> u8
+    ensures { λ r. ⌜ r ≡ moved state to ⌝ }
+{
+    if to == NONE { state } else { to }
+}
+
+// The state gives the right to load.
+pub fn loads(state: u8) -> bool
+    ensures { λ r. ⌜ r ≡ loads state ⌝ }
+{
+    right(&LOADS, state)
+}
+
+// The state gives the right to store.
+pub fn stores(state: u8) -> bool
+    ensures { λ r. ⌜ r ≡ stores state ⌝ }
+{
+    right(&STORES, state)
+}
+
+// Where an ask for GETS leads, or NONE.
+pub fn asks_gets(state: u8) -> u8
+    ensures { λ r. ⌜ r ≡ asksGets state ⌝ }
+{
+    place(&ASKS_GETS, state)
+}
+
+// Where an ask for GETX leads, or NONE.
+pub fn asks_getx(state: u8) -> u8
+    ensures { λ r. ⌜ r ≡ asksGetx state ⌝ }
+{
+    place(&ASKS_GETX, state)
+}
+
+// Where an ask for PUTX leads, or NONE.
+pub fn asks_putx(state: u8) -> u8
+    ensures { λ r. ⌜ r ≡ asksPutx state ⌝ }
+{
+    place(&ASKS_PUTX, state)
+}
+
+// Where an ask of any kind leads, or NONE.
+pub fn asked(kind: u8, state: u8) -> u8
+    ensures { λ r. ⌜ r ≡ asked kind state ⌝ }
+{
+    match kind {
+        GETS => asks_gets(state),
+        GETX => asks_getx(state),
+        PUTX => asks_putx(state),
+        _ => NONE,
+    }
+}
+
+// Where an owner goes that sees GETS.
+pub fn sees_gets(state: u8) -> u8
+    ensures { λ r. ⌜ r ≡ seesGets state ⌝ }
+{
+    let to = place(&SEES_GETS, state);
+    moved(state, to)
+}
+
+// Where a card goes that sees another's GETX.
+pub fn sees_getx(state: u8) -> u8
+    ensures { λ r. ⌜ r ≡ seesGetx state ⌝ }
+{
+    let to = place(&SEES_GETX, state);
+    moved(state, to)
+}
+
+// The state may be dropped.
+pub fn drops(state: u8) -> bool
+    ensures { λ r. ⌜ r ≡ drops state ⌝ }
+{
+    right(&DROPS, state)
+}
+
+// Data is on its way to the card.
+pub fn waits(state: u8) -> bool
+    ensures { λ r. ⌜ r ≡ waits state ⌝ }
+{
+    right(&WAITS, state)
+}
+
+// A reader: another's GETX moves it, granted or not.
+pub fn reads(state: u8) -> bool
+    ensures { λ r. ⌜ r ≡ reads state ⌝ }
+{
+    right(&READS, state)
+}
+
+// An owner in this state can give its value away.
+pub fn gives(state: u8) -> bool
+    ensures { λ r. ⌜ r ≡ gives state ⌝ }
+{
+    right(&GIVES, state)
+}
+
+// A request of this kind comes from this state.
+pub fn comes_from(kind: u8, state: u8) -> bool
+    ensures { λ r. ⌜ r ≡ comesFrom kind state ⌝ }
+{
+    match kind {
+        GETS => right(&FROM_GETS, state),
+        GETX => right(&FROM_GETX, state),
+        PUTX => right(&FROM_PUTX, state),
+        _ => false,
+    }
+}
+
+// A put from this state is taken; from another it has lapsed.
+pub fn put_stands(state: u8) -> bool
+    ensures { λ r. ⌜ r ≡ putStands state ⌝ }
+{
+    right(&PUT_STANDS, state)
+}
+
+// Where an asker goes whose request is granted, or NONE.
+pub fn granted_to(state: u8) -> u8
+    ensures { λ r. ⌜ r ≡ grantedTo state ⌝ }
+{
+    place(&GRANTED_TO, state)
+}
+
+// Where a card goes whose data comes, or NONE.
+pub fn filled_to(state: u8) -> u8
+    ensures { λ r. ⌜ r ≡ filledTo state ⌝ }
+{
+    place(&FILLED_TO, state)
+}
