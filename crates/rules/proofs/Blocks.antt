@@ -15,7 +15,7 @@ use Rattle.rules.specs.Events.{storing, takes, rejoinBlock}
 use Rattle.rules.specs.declared.kinds.Cell.{Cell}
 use Rattle.rules.specs.declared.kinds.Message.{Message}
 use Rattle.rules.proofs.Tests.{clash, test, cond-cases, false-if}
-use Rattle.rules.proofs.Lists.{put-cases, put-same, All-map, All-keep}
+use Rattle.rules.proofs.Lists.{replace-cases, replace-same, All-map, All-keep}
 use Rattle.rules.proofs.Masks.{has-without-other}
 use Rattle.rules.proofs.Board.{Write, pick, here, notBy}
 use Rattle.rules.proofs.Invariant.{owns, CellOk, BlockOk}
@@ -66,11 +66,11 @@ module _ {cards : ℕ} {B : Block} {ws : List Write} {d : ℕ} (ok : BlockOk car
       → (stores (B .cell k .state) ≡ true → stores (x .state) ≡ true)
       → BlockOk cards (withCell B k x) ws d
   cell-block k x new o s = record {
-    cells = λ j. put-cases (CellOk cards (B .owner) (B .sharers) (B .memory) (pick here ws d) j) (B .cell) k x j
+    cells = λ j. replace-cases (CellOk cards (B .owner) (B .sharers) (B .memory) (pick here ws d) j) (B .cell) k x j
         (λ e. rw (← e) new) (λ n. ok .cells j);
-    owner-ok = λ n. put-cases (λ y. owns (y .state) ≡ true) (B .cell) k x (B .owner)
+    owner-ok = λ n. replace-cases (λ y. owns (y .state) ≡ true) (B .cell) k x (B .owner)
         (λ e. o (rw e (ok .owner-ok n))) (λ _. ok .owner-ok n);
-    writes = All-map (λ w p. put-cases (λ y. stores (y .state) ≡ true) (B .cell) k x (w .card)
+    writes = All-map (λ w p. replace-cases (λ y. stores (y .state) ≡ true) (B .cell) k x (w .card)
         (λ e. s (rw e p)) (λ _. p)) ws (ok .writes);
     memory-is = ok .memory-is;
   }
@@ -82,7 +82,7 @@ module _ {cards : ℕ} {B : Block} {ws : List Write} {d : ℕ} (ok : BlockOk car
   store-block k v h =
       let y = storing v (B .cell k) in
       record {
-        cells = λ j. put-cases (CellOk cards (B .owner) (B .sharers) (B .memory) v j) (B .cell) k y j
+        cells = λ j. replace-cases (CellOk cards (B .owner) (B .sharers) (B .memory) v j) (B .cell) k y j
             (λ e. let x = ok .cells k in rw (← e) (record {
               code = x .code;
               inside = x .inside;
@@ -99,11 +99,11 @@ module _ {cards : ℕ} {B : Block} {ws : List Write} {d : ℕ} (ok : BlockOk car
               copied = x .copied;
               written = λ p. absurd (n (one-storer k j h p));
             });
-        owner-ok = λ n. put-cases (λ y. owns (y .state) ≡ true) (B .cell) k y (B .owner)
+        owner-ok = λ n. replace-cases (λ y. owns (y .state) ≡ true) (B .cell) k y (B .owner)
             (λ e. rw e (ok .owner-ok n)) (λ _. ok .owner-ok n);
         writes = (
-          rw (put-same (B .cell) k y) h,
-          All-map (λ w p. put-cases (λ y. stores (y .state) ≡ true) (B .cell) k y (w .card) (λ e. h) (λ _. p)) ws (ok .writes),
+          rw (replace-same (B .cell) k y) h,
+          All-map (λ w p. replace-cases (λ y. stores (y .state) ≡ true) (B .cell) k y (w .card) (λ e. h) (λ _. p)) ws (ok .writes),
         );
         memory-is = ok .memory-is;
       }
@@ -167,7 +167,7 @@ module _ {cards : ℕ} {B : Block} {ws : List Write} {d : ℕ} (ok : BlockOk car
       let sharers = without (B .sharers) (only k) in
       let current = pick here (keep (notBy k) ws) d in
       record {
-        cells = λ j. put-cases (CellOk cards owner sharers (B .memory) current j) (B .cell) k idle j
+        cells = λ j. replace-cases (CellOk cards owner sharers (B .memory) current j) (B .cell) k idle j
             (λ _. idle-ok cards owner sharers (B .memory) current j)
             (λ ne. let x = ok .cells j in record {
               code = x .code;
@@ -183,9 +183,9 @@ module _ {cards : ℕ} {B : Block} {ws : List Write} {d : ℕ} (ok : BlockOk car
             });
         owner-ok = λ n. test (eqb (B .owner) k)
             (λ e. absurd (n (rw e)))
-            (λ e. rw e (put-cases (λ y. owns (y .state) ≡ true) (B .cell) k idle (B .owner)
+            (λ e. rw e (replace-cases (λ y. owns (y .state) ≡ true) (B .cell) k idle (B .owner)
             (λ e′. absurd (eqb-false (B .owner) k e (sym e′))) (λ _. ok .owner-ok (λ h. n (rw e h)))));
-        writes = All-map (λ w p. put-cases (λ y. stores (y .state) ≡ true) (B .cell) k idle (w .card)
+        writes = All-map (λ w p. replace-cases (λ y. stores (y .state) ≡ true) (B .cell) k idle (w .card)
             (λ e. absurd (clash (eq-eqb (w .card) k (sym e)) (not-true (eqb (w .card) k) (p .1)))) (λ _. p .0))
             (keep (notBy k) ws) (All-keep (λ w. stores (B .cell (w .card) .state) ≡ true) (notBy k) ws (ok .writes));
         memory-is = ok .memory-is;

@@ -10,14 +10,14 @@ use borrow.Author.Tests.{not-false}
 use Rattle.rules.specs.Tests.{allOf}
 use Rattle.rules.specs.Lists.{All}
 use Rattle.rules.specs.Numbers.{home, granted, putTaken}
-use Rattle.rules.specs.Table.{loads}
+use Rattle.rules.specs.Table.{loads, stores}
 use Rattle.rules.specs.Chassis.{Chassis, cellOf, stateOf, fresh}
-use Rattle.rules.specs.Answers.{refusalNo, Outcome}
+use Rattle.rules.specs.Answers.{refusalNo, Result}
 use Rattle.rules.specs.Order.{orderReasons}
 use Rattle.rules.specs.Formed.{wellFormed}
 use Rattle.rules.specs.Events.{noCard, noBlock, rightReasons, noMessage, reasons, effect, step}
-use Rattle.rules.specs.History.{Did, loaded, settles, quiet, headBlock, accepted, did, Run, run, written}
-use Rattle.rules.specs.Demand.{Coherent}
+use Rattle.rules.specs.History.{Did, loaded, settles, quiet, headBlock, didAccepted, did, Run, run, written}
+use Rattle.rules.specs.Demand.{accepts, Coherent}
 use Rattle.rules.specs.Claims.{Demand-3}
 use Rattle.rules.specs.declared.kinds.Request.{Request}
 use Rattle.rules.specs.declared.kinds.Answer.{Answer}
@@ -42,6 +42,7 @@ use Rattle.rules.proofs.Blocks.{idle-ok, one-storer}
 use Rattle.rules.proofs.Holders.{held-not, possible, loader-only, load-current}
 use Rattle.rules.proofs.Stores.{LoadOk, Past, past-empty, past-more, struck-unseen}
 use Rattle.rules.proofs.Refusals.{
+  accepts-none,
   None,
   refused-cases,
   effect-done,
@@ -85,13 +86,13 @@ module _ {c : Chassis} {log : List Did} (inv : Inv c log) where
   )
 
   -- an accepted event that is no load
-  other-ok : (e : Event) → ((v : ℕ) → LoadOk log (accepted c e v)) → (a : Answer) → LoadOk log (did c e a)
+  other-ok : (e : Event) → ((v : ℕ) → LoadOk log (didAccepted c e v)) → (a : Answer) → LoadOk log (did c e a)
   unfolding did
   other-ok e h (Done v) = h v
   other-ok e h (Refused r) = tt
 
   effect-loads : (e : Event) → None (reasons c e) → LoadOk log (did c e (effect c e .answer))
-  unfolding reasons rightReasons effect did accepted
+  unfolding reasons rightReasons effect did didAccepted
   effect-loads (Load k b) h = loaded-ok k b (not-false (loads (stateOf c k b)) (h .1 .1 .0))
   effect-loads (Store k b v) h = tt
   effect-loads (Drop k b) h = tt
@@ -104,7 +105,7 @@ module _ {c : Chassis} {log : List Did} (inv : Inv c log) where
 
   step-loads : (e : Event) → LoadOk log (did c e (step c e .answer))
   unfolding step did
-  step-loads e = refused-cases c (λ (o : Outcome). LoadOk log (did c e (o .answer))) _ (effect c e) (λ _. tt) (λ h. effect-loads e (h .1))
+  step-loads e = refused-cases c (λ (o : Result). LoadOk log (did c e (o .answer))) _ (effect c e) (λ _. tt) (λ h. effect-loads e (h .1))
 
   -- 13 is never given
   order-never : (l : List Request) → c .line ≡ l → Never (refusalNo Impossible) (orderReasons c l)
@@ -156,6 +157,15 @@ unfolding step
 never-ill-formed c w e = never-given c IllFormed _ (effect c e)
     (never-first 15 _ _ (λ p _. true≢false (sym p ∙ ap not w)) (λ _. reasons-formed c e)) (effect-done c e)
 
+-- a load or a store that would be accepted has its right
+load-right : (c : Chassis) (k b : ℕ) → accepts c (Load k b) ≡ true → loads (stateOf c k b) ≡ true
+unfolding reasons rightReasons
+load-right c k b h = not-false (loads (stateOf c k b)) (accepts-none c (Load k b) h .1 .1 .0)
+
+store-right : (c : Chassis) (k b v : ℕ) → accepts c (Store k b v) ≡ true → stores (stateOf c k b) ≡ true
+unfolding reasons rightReasons
+store-right c k b v h = not-false (stores (stateOf c k b)) (accepts-none c (Store k b v) h .1 .1 .0)
+
 -- Every run
 
 record Good (r : Run) : Type 0 where
@@ -179,17 +189,17 @@ coherent r g = record {
   loads-last = g .past .loads-last;
   struck-by-rejoin = g .past .struck-ok;
   struck-unseen = All-map struck-unseen (written (r .log)) (g .past .unseen);
-  one-storer = λ j k b ne h. (
-    false-if (λ q. ne (loader-only (g .inv .blocks-ok b) (g .inv .few) j k h q)),
-    false-if (λ q. ne (one-storer (g .inv .blocks-ok b) j k h q)),
+  one-storer = λ j k b v u ne h. let s = store-right (r .now) j b v h in (
+    false-if (λ q. ne (loader-only (g .inv .blocks-ok b) (g .inv .few) j k s (load-right (r .now) k b q))),
+    false-if (λ q. ne (one-storer (g .inv .blocks-ok b) j k s (store-right (r .now) k b u q))),
   );
   never-impossible = never-impossible (g .inv);
   never-ill-formed = never-ill-formed (r .now) (g .formed);
 }
 
 pub demand-3 : Demand-3
-demand-3 cards blocks = start-cases cards blocks
-    (λ o. o .answer ≡ Done 0 → (es : List Event) → Coherent (run (o .after) es))
+demand-3 cards blocks v = start-cases cards blocks
+    (λ o. o .answer ≡ Done v → (es : List Event) → Coherent (run (o .after) es))
     (λ h _ es. coherent _ (run-good (fresh cards blocks)
     (fresh-ok cards blocks (let f = sizes→ cards blocks h .few-cards in omega arith)) (fresh-formed cards blocks h) es))
-    (λ r e. absurd (refused≢done r 0 e))
+    (λ r e. absurd (refused≢done r v e))

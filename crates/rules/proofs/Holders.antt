@@ -8,7 +8,7 @@ use mathlib.Core.Logic.{_≢_}
 use lib.Dec.{eqb}
 use borrow.Author.Tests.{eqb-true, eqb-false, eq-eqb, ne-eqb}
 use Rattle.rules.specs.Numbers.{home, I, putx}
-use Rattle.rules.specs.Table.{loads, stores, waits, gives, comesFrom}
+use Rattle.rules.specs.Table.{loads, stores, waits, canGive, comesFrom}
 use Rattle.rules.specs.Chassis.{Block}
 use Rattle.rules.specs.Order.{held, impossible, given}
 use Rattle.rules.specs.declared.kinds.Request.{Request}
@@ -100,22 +100,22 @@ module _ {cards : ℕ} {B : Block} {ws : List Write} {d : ℕ} (ok : BlockOk car
         let q = r .card in
         let s = B .cell q .state in
         let o = B .owner in
-        let put = eqb (r .kind) putx in
+        let isPut = eqb (r .kind) putx in
         let a = asking (r .kind) s (ok .cells q .code) w in
         let agree : eqb o q ≡ owns s = test (owns s)
         (λ p. rw p (eq-eqb o q (ok .cells q .owned p)))
         (λ p. rw p (ne-eqb o q (not-owner q (a .there) p))) in
-        let owner-gives : eqb o home ≡ false → gives (B .cell o .state) ≡ true
-        = λ f. state (B .cell o .state) (ok .cells o .code) .stores-gives (owner-stores (eqb-false o home f)) in
+        let owner-gives : eqb o home ≡ false → canGive (B .cell o .state) ≡ true
+        = λ f. state (B .cell o .state) (ok .cells o .code) .stores-canGive (owner-stores (eqb-false o home f)) in
         →any _ (
           rw w,
           (
-            test put (λ e. rw e) (λ e. rw (e, agree, a .owns-not e)),
+            test isPut (λ e. rw e) (λ e. rw (e, agree, a .owns-not e)),
             (
-              test put (λ e. rw e) (λ e. test (eqb o home) (λ f. rw (e, f)) (λ f. rw (e, f, owner-gives f))),
+              test isPut (λ e. rw e) (λ e. test (eqb o home) (λ f. rw (e, f)) (λ f. rw (e, f, owner-gives f))),
               (
-                rw (a .put-owns, agree) (never put (owns s)),
-                (rw (a .put-owns, agree) (nor put (owns s)), tt),
+                rw (a .put-owns, agree) (never isPut (owns s)),
+                (rw (a .put-owns, agree) (nor isPut (owns s)), tt),
               ),
             ),
           ),

@@ -16,4 +16,5 @@ pub mod Stores
 pub mod Formed
 pub mod Stays
 pub mod Start
+pub mod Last
 pub mod Demand

@@ -8,17 +8,17 @@ use mathlib.Core.Logic.{_≢_}
 use lib.ListN.{length, getD}
 use lib.Dec.{eqb}
 use borrow.Author.Tests.{eqb-true, eqb-false, eq-eqb}
-use Rattle.rules.specs.Lists.{put, removed, keep, All}
+use Rattle.rules.specs.Lists.{replace, removed, keep, All}
 use Rattle.rules.proofs.Tests.{clash, test, cond-cases}
 
 module _ {A : Type 0} where
-  pub put-cases : (P : A → Type 0) (f : ℕ → A) (i : ℕ) (x : A) (j : ℕ) → (i ≡ j → P x) → (i ≢ j → P (f j)) → P (put f i x j)
-  unfolding put
-  put-cases P f i x j g h = cond-cases P (eqb i j) x (f j) (λ e. g (eqb-true i j e)) (λ e. h (eqb-false i j e))
+  pub replace-cases : (P : A → Type 0) (f : ℕ → A) (i : ℕ) (x : A) (j : ℕ) → (i ≡ j → P x) → (i ≢ j → P (f j)) → P (replace f i x j)
+  unfolding replace
+  replace-cases P f i x j g h = cond-cases P (eqb i j) x (f j) (λ e. g (eqb-true i j e)) (λ e. h (eqb-false i j e))
 
-  pub put-same : (f : ℕ → A) (i : ℕ) (x : A) → put f i x i ≡ x
-  unfolding put
-  put-same f i x = rw (eq-eqb i i refl)
+  pub replace-same : (f : ℕ → A) (i : ℕ) (x : A) → replace f i x i ≡ x
+  unfolding replace
+  replace-same f i x = rw (eq-eqb i i refl)
 
   pub All-map : {P Q : A → Type 0} → ((x : A) → P x → Q x) → (xs : List A) → All P xs → All Q xs
   All-map f [] h = tt

@@ -3,8 +3,8 @@ use mathlib.Core.Bool.{Bool}
 use mathlib.Core.List.{List}
 use mathlib.Core.Path.{refl}
 use Rattle.rules.specs.Tests.{each, any, all, some, allOf}
-use Rattle.rules.specs.Lists.{put, removed, keep}
-use Rattle.rules.specs.Masks.{has, only, every, both, without, inside}
+use Rattle.rules.specs.Lists.{replace, removed, keep}
+use Rattle.rules.specs.Masks.{has, only, every, union, without, inside}
 use Rattle.rules.specs.Table.{
   loads,
   stores,
@@ -13,8 +13,8 @@ use Rattle.rules.specs.Table.{
   seesGetx,
   drops,
   waits,
-  reads,
-  gives,
+  isReader,
+  canGive,
   comesFrom,
   putStands,
   grantedTo,
@@ -73,13 +73,13 @@ use Rattle.rules.specs.Events.{
   step,
   start,
 }
-use Rattle.rules.specs.Marked.{Line, plays, table, slips}
+use Rattle.rules.specs.Marked.{Line, plays, markedTable, slips}
 use Rattle.rules.specs.Claims.{Marked-hold, Slips-hold}
 
 -- a table played by the rules: who unfolds this unfolds all of them
 played : List (List Line) → Bool
-unfolding plays each any all some allOf put removed keep has only every both without inside loads stores
-    asked seesGets seesGetx drops waits reads gives comesFrom putStands grantedTo filledTo
+unfolding plays each any all some allOf replace removed keep has only every union without inside loads stores
+    asked seesGets seesGetx drops waits isReader canGive comesFrom putStands grantedTo filledTo
     refusedBy held impossible noRoomFor orderReasons suffices turn outcomeNo given memoryAfter
     ownerAfter sharersAfter askerSees ownerSees readerSees sees ordered dataFor sent retryMask retried again
     orderHead order sizes homeOrCard okCell unusedCell okBlock unusedBlock okRequest okMessage wellFormed
@@ -87,7 +87,7 @@ unfolding plays each any all some allOf put removed keep has only every both wit
 played t = allOf t (plays (fresh 0 0))
 
 pub marked-hold : Marked-hold
-unfolding played table
+unfolding played markedTable
 marked-hold = refl
 
 pub slips-hold : Slips-hold

@@ -9,7 +9,7 @@ use lib.Dec.{ltb, eqb}
 use lib.Pow.{pow-pos, pow-lt, pow-add, shl-shr, ones-lt, ones-split, high}
 use lib.Bits.{bitAnd, bitOr, bitXor, or-shr, or-mod, and-shr, and-mod, xor-shr, xor-mod, or-lt, and-lt, xor-lt}
 use borrow.Author.Tests.{eqb-true, eqb-false, ltb-true, ltb-false, lt-ltb}
-use Rattle.rules.specs.Masks.{has, only, every, both, without, inside}
+use Rattle.rules.specs.Masks.{has, only, every, union, without, inside}
 use Rattle.rules.proofs.Tests.{test, or-i}
 
 -- a digit is 0 or 1
@@ -18,9 +18,9 @@ digit P p q n = test (eqb (n % 2) 0)
     (λ e. subst P (sym (eqb-true (n % 2) 0 e)) p)
     (λ e. let d = eqb-false (n % 2) 0 e in let one : n % 2 ≡ 1 = omega arith in subst P (sym one) q)
 
-pub has-both : (a b k : ℕ) → has (both a b) k ≡ (has a k || has b k)
-unfolding has both
-has-both a b k = rw (or-shr a b k) (rw (or-mod (a / 2 ^ k) (b / 2 ^ k) 1)
+pub has-union : (a b k : ℕ) → has (union a b) k ≡ (has a k || has b k)
+unfolding has union
+has-union a b k = rw (or-shr a b k) (rw (or-mod (a / 2 ^ k) (b / 2 ^ k) 1)
     (digit (λ x. eqb (bitOr x (b / 2 ^ k % 2)) 1 ≡ (eqb x 1 || eqb (b / 2 ^ k % 2) 1))
     (digit (λ y. eqb (bitOr 0 y) 1 ≡ (eqb 0 1 || eqb y 1)) refl refl (b / 2 ^ k))
     (digit (λ y. eqb (bitOr 1 y) 1 ≡ (eqb 1 1 || eqb y 1)) refl refl (b / 2 ^ k)) (a / 2 ^ k)))
@@ -47,11 +47,11 @@ has-only-other q k d = test (ltb q k)
     let even : 2 ^ n * 2 % 2 ≡ 0 = omega arith in
     rw g (rw (pow-add 2 (suc n) k) (rw (shl-shr (2 ^ suc n) k) (rw (pow-suc 2 n) (rw even)))))
 
-pub has-both-l : (a b k : ℕ) → has a k ≡ true → has (both a b) k ≡ true
-has-both-l a b k h = rw (has-both a b k, h)
+pub has-union-l : (a b k : ℕ) → has a k ≡ true → has (union a b) k ≡ true
+has-union-l a b k h = rw (has-union a b k, h)
 
-pub has-both-r : (a b k : ℕ) → has b k ≡ true → has (both a b) k ≡ true
-has-both-r a b k h = rw (has-both a b k, h) (or-i {a = has a k} (λ _. refl))
+pub has-union-r : (a b k : ℕ) → has b k ≡ true → has (union a b) k ≡ true
+has-union-r a b k h = rw (has-union a b k, h) (or-i {a = has a k} (λ _. refl))
 
 pub has-without-other : (a q k : ℕ) → q ≢ k → has a k ≡ true → has (without a (only q)) k ≡ true
 has-without-other a q k d h = rw (has-without a (only q) k, h, has-only-other q k d)
@@ -71,9 +71,9 @@ pub only-inside : (n k : ℕ) → k < n → inside n (only k) ≡ true
 unfolding inside only
 only-inside n k l = lt-ltb (2 ^ k) (2 ^ n) (pow-lt l)
 
-pub both-inside : (n a b : ℕ) → inside n a ≡ true → inside n b ≡ true → inside n (both a b) ≡ true
-unfolding inside both
-both-inside n a b p q = lt-ltb (bitOr a b) (2 ^ n) (or-lt n a b (ltb-true a (2 ^ n) p) (ltb-true b (2 ^ n) q))
+pub union-inside : (n a b : ℕ) → inside n a ≡ true → inside n b ≡ true → inside n (union a b) ≡ true
+unfolding inside union
+union-inside n a b p q = lt-ltb (bitOr a b) (2 ^ n) (or-lt n a b (ltb-true a (2 ^ n) p) (ltb-true b (2 ^ n) q))
 
 pub without-inside : (n a b : ℕ) → inside n a ≡ true → inside n b ≡ true → inside n (without a b) ≡ true
 unfolding inside without

@@ -1,16 +1,17 @@
 -- Refusals: what holds where an event is refused, and where none of its reasons holds.
 use Prim.Native.Nat.{ℕ}
-use mathlib.Core.Bool.{Bool, true, false, not}
+use mathlib.Core.Bool.{Bool, true, false, not, true≢false}
 use mathlib.Core.List.{List, [], _∷_}
-use mathlib.Core.Path.{_≡_, refl, ap, subst}
+use mathlib.Core.Path.{_≡_, refl, sym, ap, subst}
 use mathlib.Core.Logic.{_≢_}
 use lib.Dec.{eqb}
 use borrow.Author.Tests.{eq-eqb, not-true}
 use Rattle.rules.specs.Tests.{allOf}
 use Rattle.rules.specs.Chassis.{Chassis}
-use Rattle.rules.specs.Answers.{refusalNo, refusalOf, Outcome, outcome, Reason, refusedBy}
+use Rattle.rules.specs.Answers.{refusalNo, refusalOf, Result, result, Reason, refusedBy}
 use Rattle.rules.specs.Order.{order, orderHead}
-use Rattle.rules.specs.Events.{messageAt, live, deliver, effect, step}
+use Rattle.rules.specs.Events.{messageAt, live, deliver, reasons, effect, step}
+use Rattle.rules.specs.Demand.{isDone, accepts}
 use Rattle.rules.specs.Claims.{Refused-keeps}
 use Rattle.rules.specs.declared.kinds.Request.{Request}
 use Rattle.rules.specs.declared.kinds.Answer.{Answer}
@@ -34,11 +35,11 @@ abbrev pub None : List Reason → Type 0
 None [] = Unit {0}
 None (r ∷ rs) = (r .holds ≡ false) × None rs
 
-pub refused-cases : (c : Chassis) (P : Outcome → Type 0) (rs : List Reason) (done : Outcome)
-    → ((r : Refusal) → P (outcome (Refused r) c)) → (None rs → P done) → P (refusedBy c rs done)
+pub refused-cases : (c : Chassis) (P : Result → Type 0) (rs : List Reason) (done : Result)
+    → ((r : Refusal) → P (result (Refused r) c)) → (None rs → P done) → P (refusedBy c rs done)
 unfolding refusedBy
 refused-cases c P [] done f g = g tt
-refused-cases c P (r ∷ rs) done f g = cond-cases P (r .holds) (outcome (Refused (r .why)) c) (refusedBy c rs done)
+refused-cases c P (r ∷ rs) done f g = cond-cases P (r .holds) (result (Refused (r .why)) c) (refusedBy c rs done)
     (λ _. f (r .why)) (λ e. refused-cases c P rs done f (λ h. g (e, h)))
 
 -- An accepted event answers a value
@@ -59,7 +60,7 @@ effect-done c (Store k b v) = tt
 effect-done c (Drop k b) = tt
 effect-done c (Ask k b kind mask) = tt
 effect-done c Order = order-done c (c .line)
-effect-done c (Deliver i) = cond-cases (λ (o : Outcome). IsDone (o .answer)) (live (c .block (messageAt c i .block)) (messageAt c i)) _ _
+effect-done c (Deliver i) = cond-cases (λ (o : Result). IsDone (o .answer)) (live (c .block (messageAt c i .block)) (messageAt c i)) _ _
     (λ _. tt) (λ _. tt)
 effect-done c (Copy i) = tt
 effect-done c (Rejoin k) = tt
@@ -67,8 +68,14 @@ effect-done c (Rejoin k) = tt
 -- "A refused event changes nothing in the chassis"
 pub refused-keeps : Refused-keeps
 unfolding step
-refused-keeps c e r = refused-cases c (λ (o : Outcome). o .answer ≡ Refused r → o .after ≡ c) _ (effect c e)
+refused-keeps c e r = refused-cases c (λ (o : Result). o .answer ≡ Refused r → o .after ≡ c) _ (effect c e)
     (λ _ _. refl) (λ _ h. absurd (subst IsDone h (effect-done c e)))
+
+-- an event that would be accepted has no reason to be refused
+pub accepts-none : (c : Chassis) (e : Event) → accepts c e ≡ true → None (reasons c e)
+unfolding accepts step
+accepts-none c e = refused-cases c (λ (o : Result). isDone (o .answer) ≡ true → None (reasons c e)) _ (effect c e)
+    (λ _ h. absurd (true≢false (sym h))) (λ h _. h .1)
 
 -- A refusal that is never given
 
@@ -82,12 +89,12 @@ pub never-first : (n : ℕ) (r : Reason) (rs : List Reason) → (r .holds ≡ tr
 unfolding Never
 never-first n r rs f g = (f, g)
 
-pub never-given : (c : Chassis) (x : Refusal) (rs : List Reason) (done : Outcome) → Never (refusalNo x) rs → IsDone (done .answer)
+pub never-given : (c : Chassis) (x : Refusal) (rs : List Reason) (done : Result) → Never (refusalNo x) rs → IsDone (done .answer)
     → refusedBy c rs done .answer ≢ Refused x
 unfolding refusedBy Never
 never-given c x [] done h d = λ e. subst IsDone e d
 never-given c x (r ∷ rs) done h d =
-    cond-cases (λ o. o .answer ≢ Refused x) (r .holds) (outcome (Refused (r .why)) c) (refusedBy c rs done)
+    cond-cases (λ o. o .answer ≢ Refused x) (r .holds) (result (Refused (r .why)) c) (refusedBy c rs done)
     (λ p e. h .0 p (ap refusalOf e)) (λ p. never-given c x rs done (h .1 p) d)
 
 -- n is the number of none of the reasons: a test that antt computes

@@ -7,24 +7,22 @@ use mathlib.Core.Logic.{_≢_}
 use borrow.Author.Tests.{not-false}
 use Rattle.rules.specs.Tests.{each}
 use Rattle.rules.specs.Chassis.{fresh, freshBlock}
-use Rattle.rules.specs.Answers.{Outcome, outcome, refusedBy}
+use Rattle.rules.specs.Answers.{Result, result, refusedBy}
 use Rattle.rules.specs.Formed.{sizes, homeOrCard, wellFormed}
 use Rattle.rules.specs.Events.{step, start}
 use Rattle.rules.specs.Claims.{Start-formed, Refused-start}
 use Rattle.rules.specs.declared.kinds.Answer.the-variants.{Done, Refused}
 use Rattle.rules.specs.declared.kinds.Refusal.{Refusal}
-use Rattle.rules.specs.declared.kinds.Refusal.the-variants.{IllFormed}
-use Rattle.rules.specs.declared.kinds.Event.{Event}
 use Rattle.rules.proofs.Masks.{none-inside}
 use Rattle.rules.proofs.Refusals.{refused-cases, IsDone}
 use Rattle.rules.proofs.Formed.{idle-wf, idle-unused, →unused, →wf}
 
 -- an accepted Start has sizes in range, and makes a fresh chassis
-pub start-cases : (cards blocks : ℕ) (P : Outcome → Type 0)
-    → (sizes cards blocks ≡ true → P (outcome (Done 0) (fresh cards blocks)))
-    → ((r : Refusal) → P (outcome (Refused r) (fresh 0 0))) → P (start cards blocks)
+pub start-cases : (cards blocks : ℕ) (P : Result → Type 0)
+    → (sizes cards blocks ≡ true → P (result (Done 0) (fresh cards blocks)))
+    → ((r : Refusal) → P (result (Refused r) (fresh 0 0))) → P (start cards blocks)
 unfolding start
-start-cases cards blocks P f g = refused-cases (fresh 0 0) P _ (outcome (Done 0) (fresh cards blocks))
+start-cases cards blocks P f g = refused-cases (fresh 0 0) P _ (result (Done 0) (fresh cards blocks))
     g (λ h. f (not-false (sizes cards blocks) (h .0)))
 
 pub refused≢done : (r : Refusal) (v : ℕ) → Refused r ≢ Done v
@@ -47,8 +45,8 @@ fresh-formed cards blocks h = →wf (fresh cards blocks) (record {
 })
 
 pub start-formed : Start-formed
-start-formed cards blocks = start-cases cards blocks (λ o. o .answer ≡ Done 0 → wellFormed (o .after) ≡ true)
-    (λ h _. fresh-formed cards blocks h) (λ r e. absurd (refused≢done r 0 e))
+start-formed cards blocks v = start-cases cards blocks (λ o. o .answer ≡ Done v → wellFormed (o .after) ≡ true)
+    (λ h _. fresh-formed cards blocks h) (λ r e. absurd (refused≢done r v e))
 
 -- no event is accepted without a card
 no-cards : wellFormed (fresh 0 0) ≡ false
@@ -57,7 +55,8 @@ no-cards = refl
 
 pub refused-start : Refused-start
 unfolding step refusedBy
-refused-start cards blocks r = start-cases cards blocks
-    (λ o. o .answer ≡ Refused r → (e : Event) → step (o .after) e ≡ outcome (Refused IllFormed) (o .after))
-    (λ _ h. absurd (refused≢done r 0 (sym h)))
-    (λ _ _ e. rw no-cards)
+refused-start cards blocks r h = (
+  start-cases cards blocks (λ o. o .answer ≡ Refused r → o .after ≡ fresh 0 0)
+      (λ _ h. absurd (refused≢done r 0 (sym h))) (λ _ _. refl) h,
+  λ e. rw no-cards,
+)

@@ -16,8 +16,8 @@ use Rattle.rules.specs.Table.{
   seesGetx,
   drops,
   waits,
-  reads,
-  gives,
+  isReader,
+  canGive,
   askers,
   comesFrom,
   putStands,
@@ -45,13 +45,13 @@ beq-eq false false h = refl
 pub record State (s : ℕ) : Type 0 where
   pub stores-owns : stores s ≡ true → owns s ≡ true
   pub stores-loads : stores s ≡ true → loads s ≡ true
-  pub stores-gives : stores s ≡ true → gives s ≡ true
+  pub stores-canGive : stores s ≡ true → canGive s ≡ true
   pub stores-copies : stores s ≡ true → copies s ≡ false
   pub owns-there : owns s ≡ true → eqb s I ≡ false
-  pub owns-reads : owns s ≡ true → reads s ≡ false
+  pub owns-reader : owns s ≡ true → isReader s ≡ false
   pub owns-stores : owns s ≡ true → waits s ≡ false → stores s ≡ true
-  pub shares-reads : shares s ≡ true → waits s ≡ false → reads s ≡ true
-  pub reads-there : reads s ≡ true → eqb s I ≡ false
+  pub shares-reader : shares s ≡ true → waits s ≡ false → isReader s ≡ true
+  pub reader-there : isReader s ≡ true → eqb s I ≡ false
   pub copies-listed : copies s ≡ true → (owns s || shares s) ≡ true
   pub copies-shares : copies s ≡ true → owns s ≡ false → shares s ≡ true
   pub loads-copies : loads s ≡ true → stores s ≡ false → copies s ≡ true
@@ -61,17 +61,17 @@ pub record State (s : ℕ) : Type 0 where
   pub waits-stores : waits s ≡ true → stores s ≡ false
 
 pub state : (s : ℕ) → s < states → State s
-unfolding all loads stores gives owns shares copies reads drops waits
+unfolding all loads stores canGive owns shares copies isReader drops waits
 state s l = record {
   stores-owns = imp (all-elim states (λ s. stores s ⇒ owns s) refl s l);
   stores-loads = imp (all-elim states (λ s. stores s ⇒ loads s) refl s l);
-  stores-gives = imp (all-elim states (λ s. stores s ⇒ gives s) refl s l);
+  stores-canGive = imp (all-elim states (λ s. stores s ⇒ canGive s) refl s l);
   stores-copies = imp-not (all-elim states (λ s. stores s ⇒ not (copies s)) refl s l);
   owns-there = imp-not (all-elim states (λ s. owns s ⇒ not (eqb s I)) refl s l);
-  owns-reads = imp-not (all-elim states (λ s. owns s ⇒ not (reads s)) refl s l);
+  owns-reader = imp-not (all-elim states (λ s. owns s ⇒ not (isReader s)) refl s l);
   owns-stores = λ p q. imp (imp (all-elim states (λ s. owns s ⇒ not (waits s) ⇒ stores s) refl s l) p) (fails q);
-  shares-reads = λ p q. imp (imp (all-elim states (λ s. shares s ⇒ not (waits s) ⇒ reads s) refl s l) p) (fails q);
-  reads-there = imp-not (all-elim states (λ s. reads s ⇒ not (eqb s I)) refl s l);
+  shares-reader = λ p q. imp (imp (all-elim states (λ s. shares s ⇒ not (waits s) ⇒ isReader s) refl s l) p) (fails q);
+  reader-there = imp-not (all-elim states (λ s. isReader s ⇒ not (eqb s I)) refl s l);
   copies-listed = imp (all-elim states (λ s. copies s ⇒ owns s || shares s) refl s l);
   copies-shares = λ p q. imp (imp (all-elim states (λ s. copies s ⇒ not (owns s) ⇒ shares s) refl s l) p) (fails q);
   loads-copies = λ p q. imp (imp (all-elim states (λ s. loads s ⇒ not (stores s) ⇒ copies s) refl s l) p) (fails q);
@@ -108,9 +108,9 @@ unfolding calm each owns shares waits
 idle-calm = calm→ I refl
 
 -- a reader or an owner that sees another's GETX
-pub getx-calm : (s : ℕ) → s < states → (reads s || stores s) ≡ true → Calm (seesGetx s)
-unfolding all each reads stores calm seesGetx owns shares waits
-getx-calm s l p = calm→ (seesGetx s) (imp (all-elim states (λ s. reads s || stores s ⇒ calm (seesGetx s)) refl s l) p)
+pub getx-calm : (s : ℕ) → s < states → (isReader s || stores s) ≡ true → Calm (seesGetx s)
+unfolding all each isReader stores calm seesGetx owns shares waits
+getx-calm s l p = calm→ (seesGetx s) (imp (all-elim states (λ s. isReader s || stores s ⇒ calm (seesGetx s)) refl s l) p)
 
 -- an idle cell sees nothing
 pub gets-idle : seesGets I ≡ I

@@ -15,7 +15,7 @@ use Rattle.rules.specs.Table.{
   loads,
   stores,
   waits,
-  reads,
+  isReader,
   asked,
   comesFrom,
   putStands,
@@ -36,20 +36,13 @@ use Rattle.rules.specs.Chassis.{
   cellChanged,
   poolChanged,
 }
-use Rattle.rules.specs.Answers.{Outcome}
+use Rattle.rules.specs.Answers.{Result}
 use Rattle.rules.specs.Order.{
   held,
   impossible,
   noRoomFor,
   orderReasons,
   suffices,
-  Turn,
-  GetsGranted,
-  GetxGranted,
-  GetsMissed,
-  GetxMissed,
-  PutTaken,
-  PutLapsed,
   turn,
   ownerAfter,
   sharersAfter,
@@ -87,6 +80,15 @@ use Rattle.rules.specs.Events.{
 }
 use Rattle.rules.specs.Claims.{Stays-formed}
 use Rattle.rules.specs.declared.kinds.Cell.{Cell}
+use Rattle.rules.specs.declared.kinds.Turn.{Turn}
+use Rattle.rules.specs.declared.kinds.Turn.the-variants.{
+  GetsGranted,
+  GetxGranted,
+  GetsMissed,
+  GetxMissed,
+  PutTaken,
+  PutLapsed,
+}
 use Rattle.rules.specs.declared.kinds.Request.{Request}
 use Rattle.rules.specs.declared.kinds.Message.{Message}
 use Rattle.rules.specs.declared.kinds.Event.{Event}
@@ -101,11 +103,11 @@ use Rattle.rules.specs.declared.kinds.Event.the-variants.{
   Rejoin,
 }
 use Rattle.rules.proofs.Tests.{clash, test, cond-cases, and-i, and-l, and-r, or-i, imp, imp-i, any→, all-intro, some-false}
-use Rattle.rules.proofs.Lists.{put-cases, All-map, All-append, All-removed, All-at, All-keep, removed-short, keep-short}
+use Rattle.rules.proofs.Lists.{replace-cases, All-map, All-append, All-removed, All-at, All-keep, removed-short, keep-short}
 use Rattle.rules.proofs.Masks.{
   has-every,
   only-inside,
-  both-inside,
+  union-inside,
   without-inside,
   every-inside,
   none-inside,
@@ -156,10 +158,10 @@ owner-wf PutTaken n x h f = h
 owner-wf PutLapsed n x h f = h
 
 moved-wf : (n : ℕ) (x : Cell) → CellWf n x → waits (x .state) ≡ false
-    → CellWf n (cond (reads (x .state)) (goes (seesGetx (x .state)) x) x)
+    → CellWf n (cond (isReader (x .state)) (goes (seesGetx (x .state)) x) x)
 moved-wf n x h f =
     let q = getx-quiet (x .state) (h .code) f in
-    cond-cases (CellWf n) (reads (x .state)) (goes (seesGetx (x .state)) x) x
+    cond-cases (CellWf n) (isReader (x .state)) (goes (seesGetx (x .state)) x) x
     (λ _. goes-wf n (seesGetx (x .state)) x (q .code) (q .waits-not)) (λ _. h)
 
 reader-wf : (t : Turn) (n : ℕ) (x : Cell) → CellWf n x → waits (x .state) ≡ false → CellWf n (readerSees t x)
@@ -182,7 +184,7 @@ owner-idle PutTaken = refl
 owner-idle PutLapsed = refl
 
 reader-idle : (t : Turn) → readerSees t idle ≡ idle
-unfolding readerSees reads
+unfolding readerSees isReader
 reader-idle GetsGranted = refl
 reader-idle GetxGranted = refl
 reader-idle GetsMissed = refl
@@ -200,7 +202,7 @@ rejoin-unused k B h =
       memory = u .memory;
       owner = cond-cases (λ y. y ≡ home) (eqb (B .owner) k) home (B .owner) (λ _. refl) (λ _. u .owner);
       sharers = rw (u .sharers);
-      cells = λ j l. put-cases (λ y. unusedCell y ≡ true) (B .cell) k idle j (λ _. idle-unused) (λ _. u .cells j l);
+      cells = λ j l. replace-cases (λ y. unusedCell y ≡ true) (B .cell) k idle j (λ _. idle-unused) (λ _. u .cells j l);
     })
 
 module _ {c : Chassis} (w : Wf c) where
@@ -233,9 +235,9 @@ module _ {c : Chassis} (w : Wf c) where
     pool-room = pr;
     requests = rs;
     messages = ms;
-    used = λ b′ l u. put-cases (BlockWf (c .cards) n) (c .block) b B b′
+    used = λ b′ l u. replace-cases (BlockWf (c .cards) n) (c .block) b B b′
         (λ _. new) (λ _. grow-block (c .cards) (c .last .0) n (c .block b′) le (w .used b′ l u));
-    unused = λ b′ l u. put-cases (λ X. unusedBlock X ≡ true) (c .block) b B b′ (λ e. absurd (omega arith)) (λ _. w .unused b′ l u);
+    unused = λ b′ l u. replace-cases (λ X. unusedBlock X ≡ true) (c .block) b B b′ (λ e. absurd (omega arith)) (λ _. w .unused b′ l u);
   }
 
   -- one cell of a card that is there anew
@@ -246,7 +248,7 @@ module _ {c : Chassis} (w : Wf c) where
       record {
         owner = B .owner;
         sharers = B .sharers;
-        places = λ j l. put-cases (Place (c .cards) (c .last .0) j) (c .block b .cell) k x j
+        places = λ j l. replace-cases (Place (c .cards) (c .last .0) j) (c .block b .cell) k x j
             (λ e. record { used = λ _. h; unused = λ q. absurd (omega arith) }) (λ _. B .places j l);
       }
 
@@ -308,7 +310,7 @@ module _ {c : Chassis} (w : Wf c) where
       let mok = message→ (c .cards) (c .blocks) (c .last .0) m (All-at P (c .pool) i _ l (w .messages)) in
       let p = removed i (c .pool) in
       let short : length p ≤ room = let a = removed-short i (c .pool) in let b = w .pool-room in omega arith in
-      cond-cases (λ (o : Outcome). Wf (o .after)) (live (c .block b) m) _ _
+      cond-cases (λ (o : Result). Wf (o .after)) (live (c .block b) m) _ _
       (λ e. let wt = live-waits (c .block b) m e in
       let t = filled (x .state) (place-at k b (mok .receiver) (mok .block) .code) wt in
       changed-wf b (withCell (c .block b) k (takes m x)) (c .line) p (c .last .0) (mok .block) (omega arith)
@@ -345,7 +347,7 @@ module _ {c : Chassis} (w : Wf c) where
           owner = cond-cases (λ y. homeOrCard (c .cards) y ≡ true) (eqb (c .block b .owner) k) home (c .block b .owner)
               (λ _. refl) (λ _. B .owner);
           sharers = without-inside (c .cards) (c .block b .sharers) (only k) (B .sharers) (only-inside (c .cards) k k<);
-          places = λ j l8. put-cases (Place (c .cards) (c .last .0) j) (c .block b .cell) k idle j
+          places = λ j l8. replace-cases (Place (c .cards) (c .last .0) j) (c .block b .cell) k idle j
               (λ _. record { used = λ _. idle-wf (c .last .0); unused = λ _. idle-unused }) (λ _. B .places j l8);
         };
         unused = λ b l u. rejoin-unused k (c .block b) (w .unused b l u);
@@ -409,7 +411,7 @@ module _ {c : Chassis} (w : Wf c) where
 
     sharers-in : (t : Turn) → inside (c .cards) (sharersAfter t Head (r .card)) ≡ true
     unfolding sharersAfter
-    sharers-in GetsGranted = both-inside (c .cards) _ (only (r .card))
+    sharers-in GetsGranted = union-inside (c .cards) _ (only (r .card))
         (cond-cases (λ y. inside (c .cards) y ≡ true) (eqb (Head .owner) home) (Head .sharers) (only (Head .owner))
         (λ _. block-ok .sharers) (λ e. only-inside (c .cards) (Head .owner) (owner-card e)))
         (only-inside (c .cards) (r .card) (asks-ok .card))
@@ -493,7 +495,7 @@ module _ {c : Chassis} (w : Wf c) where
           retry = less;
           mask = cond-cases (λ y. inside (c .cards) y ≡ true) (leb lastRetry next) (every (c .cards)) _ (λ _. every-inside (c .cards))
               (λ _. cond-cases (λ y. inside (c .cards) y ≡ true) (eqb (Head .owner) home) (Head .sharers) _ (λ _. block-ok .sharers)
-              (λ e. both-inside (c .cards) (only (Head .owner)) (Head .sharers)
+              (λ e. union-inside (c .cards) (only (Head .owner)) (Head .sharers)
               (only-inside (c .cards) (Head .owner) (owner-card e)) (block-ok .sharers)));
           full = imp-i (eqb next lastRetry) (λ e.
               rw (le-leb lastRetry next (let z = eqb-true next lastRetry e in omega arith)) (eq-eqb (every (c .cards)) (every (c .cards)) refl));
@@ -555,5 +557,5 @@ module _ {c : Chassis} (w : Wf c) where
 
 pub stays-formed : Stays-formed
 unfolding step
-stays-formed c e h = refused-cases c (λ (o : Outcome). wellFormed (o .after) ≡ true) _ (effect c e)
+stays-formed c e h = refused-cases c (λ (o : Result). wellFormed (o .after) ≡ true) _ (effect c e)
     (λ _. h) (λ g. →wf (effect c e .after) (effect-wf (wf→ c h) e (g .1)))

@@ -9,7 +9,7 @@ use lib.ListN.{length}
 use lib.Dec.{eqb, leb}
 use borrow.Author.Tests.{eqb-true, eq-eqb, ne-eqb, leb-true, leb-false, not-true, not-false}
 use Rattle.rules.specs.Tests.{_⇒_}
-use Rattle.rules.specs.Lists.{put, removed, keep, All}
+use Rattle.rules.specs.Lists.{replace, removed, keep, All}
 use Rattle.rules.specs.Masks.{has}
 use Rattle.rules.specs.Numbers.{home, gets, getx, putx, none}
 use Rattle.rules.specs.Table.{stores, drops, asked, waits, comesFrom, putStands}
@@ -25,18 +25,11 @@ use Rattle.rules.specs.Chassis.{
   cellChanged,
   poolChanged,
 }
-use Rattle.rules.specs.Answers.{Outcome, outcome}
+use Rattle.rules.specs.Answers.{Result, result}
 use Rattle.rules.specs.Order.{
   held,
   orderReasons,
   suffices,
-  Turn,
-  GetsGranted,
-  GetxGranted,
-  GetsMissed,
-  GetxMissed,
-  PutTaken,
-  PutLapsed,
   turn,
   outcomeNo,
   askerSees,
@@ -67,8 +60,17 @@ use Rattle.rules.specs.Events.{
   effect,
   step,
 }
-use Rattle.rules.specs.History.{Did, loaded, stored, settles, rejoined, quiet, headBlock, accepted, did}
+use Rattle.rules.specs.History.{Did, loaded, stored, settles, rejoined, quiet, headBlock, didAccepted, did}
 use Rattle.rules.specs.declared.kinds.Cell.{Cell}
+use Rattle.rules.specs.declared.kinds.Turn.{Turn}
+use Rattle.rules.specs.declared.kinds.Turn.the-variants.{
+  GetsGranted,
+  GetxGranted,
+  GetsMissed,
+  GetxMissed,
+  PutTaken,
+  PutLapsed,
+}
 use Rattle.rules.specs.declared.kinds.Request.{Request}
 use Rattle.rules.specs.declared.kinds.Message.{Message}
 use Rattle.rules.specs.declared.kinds.Answer.the-variants.{Done}
@@ -85,8 +87,8 @@ use Rattle.rules.specs.declared.kinds.Event.the-variants.{
 }
 use Rattle.rules.proofs.Tests.{clash, test, cond-cases, and-l, and-r, imp, all-elim}
 use Rattle.rules.proofs.Lists.{
-  put-cases,
-  put-same,
+  replace-cases,
+  replace-same,
   All-map,
   All-map₂,
   All-append,
@@ -152,25 +154,25 @@ live-waits B m h = and-l (waits (B .cell (m .receiver) .state)) (eqb (B .cell (m
 calm-live : (B : Block) (k : ℕ) (x : Cell) (m : Message) → waits (x .state) ≡ false
     → live (withCell B k x) m ≡ true → live B m ≡ true
 unfolding live
-calm-live B k x m h = put-cases (λ y. Awaits (m .number .0) y → live B m ≡ true) (B .cell) k x (m .receiver)
+calm-live B k x m h = replace-cases (λ y. Awaits (m .number .0) y → live B m ≡ true) (B .cell) k x (m .receiver)
     (λ _ p. absurd (clash (and-l (waits (x .state)) (eqb (x .awaits .0) (m .number .0)) p) h)) (λ _ p. p)
 
 -- a card's other requests stand
 cell-stands : (B : Block) (k : ℕ) (x : Cell) (j kind : ℕ) → k ≢ j → comesFrom kind (B .cell j .state) ≡ true
     → comesFrom kind (withCell B k x .cell j .state) ≡ true
-cell-stands B k x j kind ne p = put-cases (λ y. comesFrom kind (y .state) ≡ true) (B .cell) k x j (λ e. absurd (ne e)) (λ _. p)
+cell-stands B k x j kind ne p = replace-cases (λ y. comesFrom kind (y .state) ≡ true) (B .cell) k x j (λ e. absurd (ne e)) (λ _. p)
 
 module _ {c : Chassis} {log : List Did} (inv : Inv c log) where
   -- Block b anew
 
   changed-ok : (b : ℕ) (B : Block) (l : List Request) (p : List Message) (n : ℕ) (d : Did) → Only b d
       → BlockOk (c .cards) B (pending b (d ∷ log)) (base b (d ∷ log))
-      → All (λ m. MessageOk n (put (c .block) b B (m .block)) m) p
-      → All (λ r. RequestOk (put (c .block) b B (r .block)) r) l
+      → All (λ m. MessageOk n (replace (c .block) b B (m .block)) m) p
+      → All (λ r. RequestOk (replace (c .block) b B (r .block)) r) l
       → Distinct l → Inv (changed c b B l p n) (d ∷ log)
   changed-ok b B l p n d only new ms rs ds = record {
     few = inv .few;
-    blocks-ok = λ b′. put-cases (λ X. BlockOk (c .cards) X (pending b′ (d ∷ log)) (base b′ (d ∷ log))) (c .block) b B b′
+    blocks-ok = λ b′. replace-cases (λ X. BlockOk (c .cards) X (pending b′ (d ∷ log)) (base b′ (d ∷ log))) (c .block) b B b′
         (λ e. rw (← e) new)
         (λ ne. rw (pending-other b b′ d log only ne, base-other b b′ d log only ne) (inv .blocks-ok b′));
     messages = ms;
@@ -182,10 +184,10 @@ module _ {c : Chassis} {log : List Did} (inv : Inv c log) where
   messages-ok : (b : ℕ) (B : Block) (n : ℕ) → c .last .0 ≤ n
       → ((m : Message) → m .number .0 ≤ c .last .0 → live B m ≡ true
       → (live (c .block b) m ≡ true) × (B .memory ≡ c .block b .memory))
-      → All (λ m. MessageOk n (put (c .block) b B (m .block)) m) (c .pool)
+      → All (λ m. MessageOk n (replace (c .block) b B (m .block)) m) (c .pool)
   messages-ok b B n le h = All-map (λ m k. record {
     given = let g = k .given in omega arith;
-    carries = put-cases (λ X. live X m ≡ true → m .value ≡ X .memory) (c .block) b B (m .block)
+    carries = replace-cases (λ X. live X m ≡ true → m .value ≡ X .memory) (c .block) b B (m .block)
         (λ e p. let t = h m (k .given) p in
         let old = subst (λ i. live (c .block i) m ≡ true → m .value ≡ c .block i .memory) (sym e) (k .carries) in
         old (t .0) ∙ sym (t .1))
@@ -196,9 +198,9 @@ module _ {c : Chassis} {log : List Did} (inv : Inv c log) where
   requests-ok : (b : ℕ) (B : Block) (q : ℕ) (l : List Request)
       → ((j kind : ℕ) → q ≢ j → comesFrom kind (c .block b .cell j .state) ≡ true → comesFrom kind (B .cell j .state) ≡ true)
       → All (λ r. RequestOk (c .block (r .block)) r) l → All (Other q b) l
-      → All (λ r. RequestOk (put (c .block) b B (r .block)) r) l
+      → All (λ r. RequestOk (replace (c .block) b B (r .block)) r) l
   requests-ok b B q l h = All-map₂ (λ r k ne.
-      put-cases (λ X. comesFrom (r .kind) (X .cell (r .card) .state) ≡ true) (c .block) b B (r .block)
+      replace-cases (λ X. comesFrom (r .kind) (X .cell (r .card) .state) ≡ true) (c .block) b B (r .block)
       (λ e. h (r .card) (r .kind) (λ e′. ne (sym e′) (sym e))
       (subst (λ i. comesFrom (r .kind) (c .block i .cell (r .card) .state) ≡ true) (sym e) k))
       (λ _. k)) l
@@ -239,12 +241,12 @@ module _ {c : Chassis} {log : List Did} (inv : Inv c log) where
       changed-ok b B (c .line) (c .pool) (c .last .0) (stored k b v) only-stored
       (rw (eq-eqb b b refl) (store-block (inv .blocks-ok b) k v h))
       (messages-ok b B (c .last .0) (omega arith) (λ m _ p. (
-        put-cases (λ z. Awaits (m .number .0) z → live (c .block b) m ≡ true) (c .block b .cell) k y (m .receiver)
+        replace-cases (λ z. Awaits (m .number .0) z → live (c .block b) m ≡ true) (c .block b .cell) k y (m .receiver)
             (λ e q. rw (← e) q) (λ _ q. q) p,
         refl,
       )))
-      (All-map (λ r p. put-cases (λ X. comesFrom (r .kind) (X .cell (r .card) .state) ≡ true) (c .block) b B (r .block)
-      (λ e. put-cases (λ z. comesFrom (r .kind) (z .state) ≡ true) (c .block b .cell) k y (r .card)
+      (All-map (λ r p. replace-cases (λ X. comesFrom (r .kind) (X .cell (r .card) .state) ≡ true) (c .block) b B (r .block)
+      (λ e. replace-cases (λ z. comesFrom (r .kind) (z .state) ≡ true) (c .block b .cell) k y (r .card)
       (λ e′. rw (e, e′) p) (λ _. rw e p)) (λ _. p)) (c .line) (inv .requests))
       (inv .distinct)
 
@@ -272,17 +274,17 @@ module _ {c : Chassis} {log : List Did} (inv : Inv c log) where
       changed-ok b B (c .line ++ r ∷ []) (c .pool) (c .last .0) quiet only-quiet
       (ask-block (inv .blocks-ok b) k kind k< kind< h)
       (messages-ok b B (c .last .0) (omega arith) (λ m _ p. (calm-live (c .block b) k x m (t .waits-not) p, refl)))
-      (All-append (λ r. RequestOk (put (c .block) b B (r .block)) r) (c .line) (r ∷ [])
+      (All-append (λ r. RequestOk (replace (c .block) b B (r .block)) r) (c .line) (r ∷ [])
       (requests-ok b B k (c .line) (cell-stands (c .block b) k x) (inv .requests) free)
-      (rw (put-same (c .block) b B) (rw (put-same (c .block b .cell) k x) (t .stands)), tt))
+      (rw (replace-same (c .block) b B) (rw (replace-same (c .block b .cell) k x) (t .stands)), tt))
       (distinct-snoc (c .line) r (inv .distinct) free)
 
   -- an outcome keeps the invariant
-  abbrev pub Keeps : Event → Outcome → Type 0
+  abbrev pub Keeps : Event → Result → Type 0
   Keeps e o = Inv (o .after) (did c e (o .answer) ∷ log)
 
   deliver-ok : (i : ℕ) → i < length (c .pool) → Keeps (Deliver i) (deliver c i (messageAt c i))
-  unfolding pending base deliver did accepted
+  unfolding pending base deliver did didAccepted
   deliver-ok i l =
       let m = messageAt c i in
       let b = m .block in
@@ -297,7 +299,7 @@ module _ {c : Chassis} {log : List Did} (inv : Inv c log) where
       (λ e. let w = live-waits B m e in
       changed-ok b B′ (c .line) (removed i (c .pool)) (c .last .0) quiet only-quiet
       (fill-block (inv .blocks-ok b) k m w (mok .carries e))
-      (All-removed (λ a. MessageOk (c .last .0) (put (c .block) b B′ (a .block)) a) i (c .pool)
+      (All-removed (λ a. MessageOk (c .last .0) (replace (c .block) b B′ (a .block)) a) i (c .pool)
       (messages-ok b B′ (c .last .0) (omega arith) (λ a _ p. (calm-live B k x a (filled s code w .waits-not) p, refl))))
       (requests-ok b B′ k (c .line) (cell-stands B k x) (inv .requests)
       (none-waiting k b (λ kind q. clash w (asking kind s code q .waits-not))))
@@ -323,7 +325,7 @@ module _ {c : Chassis} {log : List Did} (inv : Inv c log) where
           given = p .given;
           carries = λ q. p .carries (calm-live (c .block (m .block)) k idle m (idle-calm .waits-not) q);
         }) (c .pool) (inv .messages);
-        requests = All-map (λ r p. put-cases (λ y. comesFrom (r .kind) (y .state) ≡ true) (c .block (r .block) .cell) k idle (r .card)
+        requests = All-map (λ r p. replace-cases (λ y. comesFrom (r .kind) (y .state) ≡ true) (c .block (r .block) .cell) k idle (r .card)
             (λ e. absurd (clash (eq-eqb (r .card) k (sym e)) (not-true (eqb (r .card) k) (p .1)))) (λ _. p .0))
             (keep stays (c .line)) (All-keep (λ r. RequestOk (c .block (r .block)) r) stays (c .line) (inv .requests));
         distinct = distinct-keep stays (c .line) (inv .distinct);
@@ -333,14 +335,14 @@ module _ {c : Chassis} {log : List Did} (inv : Inv c log) where
 
   ordered-ok : (b q : ℕ) (B′ : Block) (l : List Request) (p : List Message) (d : Did) → Only b d
       → Ordered (c .cards) (c .block b) B′ q (suc (c .last .0)) (pending b (d ∷ log)) (base b (d ∷ log))
-      → All (λ m. MessageOk (suc (c .last .0)) (put (c .block) b B′ (m .block)) m) p
-      → All (λ r. RequestOk (put (c .block) b B′ (r .block)) r) l → Distinct l
+      → All (λ m. MessageOk (suc (c .last .0)) (replace (c .block) b B′ (m .block)) m) p
+      → All (λ r. RequestOk (replace (c .block) b B′ (r .block)) r) l → Distinct l
       → Inv (changed c b B′ l (c .pool ++ p) (suc (c .last .0))) (d ∷ log)
   unfolding live
   ordered-ok b q B′ l p d only or ms rs ds =
       let n = suc (c .last .0) in
       changed-ok b B′ l (c .pool ++ p) n d only (ordered-block or)
-      (All-append (λ m. MessageOk n (put (c .block) b B′ (m .block)) m) (c .pool) p
+      (All-append (λ m. MessageOk n (replace (c .block) b B′ (m .block)) m) (c .pool) p
       (messages-ok b B′ n (omega arith) (λ m g h.
       let x = B′ .cell (m .receiver) in
       let w = or .seen (m .receiver) .waits-only (and-l (waits (x .state)) (eqb (x .awaits .0) (m .number .0)) h) .1 in
@@ -373,13 +375,13 @@ module _ {c : Chassis} {log : List Did} (inv : Inv c log) where
 
     -- the requests behind the head
     rest-ok : (t : Turn) {ws : List _} {d : ℕ} → Ordered (c .cards) Head (After t) (r .card) Next ws d
-        → All (λ a. RequestOk (put (c .block) (r .block) (After t) (a .block)) a) rest
+        → All (λ a. RequestOk (replace (c .block) (r .block) (After t) (a .block)) a) rest
     rest-ok t or = requests-ok (r .block) (After t) (r .card) rest (λ j kind ne w. or .seen j .stands kind ne w) (waiting .1) (apart .0)
 
     -- a turn that takes the request out of the line
     leaves : (t : Turn) (d : Did) → Only (r .block) d
         → Ordered (c .cards) Head (After t) (r .card) Next (pending (r .block) (d ∷ log)) (base (r .block) (d ∷ log))
-        → (p : List Message) → All (λ m. MessageOk Next (put (c .block) (r .block) (After t) (m .block)) m) p
+        → (p : List Message) → All (λ m. MessageOk Next (replace (c .block) (r .block) (After t) (m .block)) m) p
         → Inv (changed c (r .block) (After t) (rest ++ []) (c .pool ++ p) Next) (d ∷ log)
     leaves t d only or p ms = rw (append-nil rest)
         (ordered-ok (r .block) (r .card) (After t) rest p d only or ms (rest-ok t or) (apart .1))
@@ -393,19 +395,19 @@ module _ {c : Chassis} {log : List Did} (inv : Inv c log) where
     returned t or w =
         let again = retried (c .cards) Head r in
         ordered-ok (r .block) (r .card) (After t) (rest ++ again ∷ []) [] quiet only-quiet or tt
-        (All-append (λ a. RequestOk (put (c .block) (r .block) (After t) (a .block)) a) rest (again ∷ []) (rest-ok t or)
-        (rw (put-same (c .block) (r .block) (After t), w) (waiting .0), tt))
+        (All-append (λ a. RequestOk (replace (c .block) (r .block) (After t) (a .block)) a) rest (again ∷ []) (rest-ok t or)
+        (rw (replace-same (c .block) (r .block) (After t), w) (waiting .0), tt))
         (distinct-snoc rest again (apart .1) (apart .0))
 
     -- the message of a grant
     data-ok : (t : Turn)
         → Ordered (c .cards) Head (After t) (r .card) Next [] (pick here (pending (r .block) log) (base (r .block) log))
-        → All (λ m. MessageOk Next (put (c .block) (r .block) (After t) (m .block)) m) (dataFor Head r Next ∷ [])
+        → All (λ m. MessageOk Next (replace (c .block) (r .block) (After t) (m .block)) m) (dataFor Head r Next ∷ [])
     unfolding dataFor
     data-ok t or = (
       record {
         given = omega arith;
-        carries = λ _. rw (put-same (c .block) (r .block) (After t))
+        carries = λ _. rw (replace-same (c .block) (r .block) (After t))
             (given-current (inv .blocks-ok (r .block)) (inv .few) free ∙ sym (or .memory-is));
       },
       tt,
@@ -414,7 +416,7 @@ module _ {c : Chassis} {log : List Did} (inv : Inv c log) where
     -- a grant settles the block's stores
     grants : (t : Turn)
         → Ordered (c .cards) Head (After t) (r .card) Next [] (pick here (pending (r .block) log) (base (r .block) log))
-        → (p : List Message) → All (λ m. MessageOk Next (put (c .block) (r .block) (After t) (m .block)) m) p
+        → (p : List Message) → All (λ m. MessageOk Next (replace (c .block) (r .block) (After t) (m .block)) m) p
         → Inv (changed c (r .block) (After t) (rest ++ []) (c .pool ++ p) Next) (settles (headBlock (c .line)) ∷ log)
     unfolding pending base
     grants t or p ms = rw head-block (leaves t (settles (r .block)) only-settles (rw (eq-eqb (r .block) (r .block) refl) or) p ms)
@@ -439,12 +441,12 @@ module _ {c : Chassis} {log : List Did} (inv : Inv c log) where
         rw (ne-eqb k (r .card) (λ e. ne (sym e))) at t
 
     -- what the turn leaves of the chassis
-    abbrev At : Turn → Outcome
-    At t = outcome (Done (outcomeNo t))
+    abbrev At : Turn → Result
+    At t = result (Done (outcomeNo t))
         (changed c (r .block) (After t) (rest ++ again t (c .cards) Head r) (c .pool ++ sent t Head r Next) Next)
 
     order-head-ok : Keeps Order (orderHead c r rest)
-    unfolding orderHead did accepted outcomeNo turn sent again askerSees pending base
+    unfolding orderHead did didAccepted outcomeNo turn sent again askerSees pending base
     order-head-ok =
         let ok = inv .blocks-ok (r .block) in
         let s = Head .cell (r .card) .state in
@@ -475,7 +477,7 @@ module _ {c : Chassis} {log : List Did} (inv : Inv c log) where
   -- Every event
 
   effect-ok : (e : Event) → None (reasons c e) → Keeps e (effect c e)
-  unfolding reasons rightReasons noCard noBlock noMessage effect did accepted
+  unfolding reasons rightReasons noCard noBlock noMessage effect did didAccepted
   effect-ok (Load k b) h = loaded-ok k b (cellOf c k b .value)
   effect-ok (Store k b v) h = store-ok k b v (not-false (stores (stateOf c k b)) (h .1 .1 .0))
   effect-ok (Drop k b) h = drop-ok k b (not-false (drops (stateOf c k b)) (h .1 .1 .0))

@@ -20,6 +20,7 @@ use Rattle.rules.specs.History.{
   struck,
   Written,
   withFate,
+  withLoader,
   meets,
   settle,
   strike,
@@ -183,9 +184,6 @@ strike-cases : (Q : Written → Type 0) (k : ℕ) (w : Written)
     → (w .card ≡ k → Q (withFate (meets struck (w .fate)) w)) → (w .card ≢ k → Q w) → Q (strike k w)
 unfolding strike
 strike-cases Q k w f g = cond-cases Q (eqb (w .card) k) _ w (λ e. f (eqb-true (w .card) k e)) (λ e. g (eqb-false (w .card) k e))
-
-abbrev withLoader : ℕ → Written → Written
-withLoader k w = record { card = w .card; block = w .block; value = w .value; loaders = k ∷ w .loaders; fate = w .fate }
 
 loaded-all : (P Q : Written → Type 0) (k b : ℕ) → ((w : Written) → P w → Q w)
     → ((w : Written) → counts b w ≡ true → P w → Q (withLoader k w))

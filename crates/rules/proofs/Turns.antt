@@ -7,18 +7,11 @@ use mathlib.Core.Logic.{_≢_}
 use lib.Dec.{eqb}
 use borrow.Author.Tests.{eqb-true, eqb-false, eq-eqb, ne-eqb}
 use Rattle.rules.specs.Lists.{All}
-use Rattle.rules.specs.Masks.{has, only, both}
+use Rattle.rules.specs.Masks.{has, only, union}
 use Rattle.rules.specs.Numbers.{home, gets, getx, I}
-use Rattle.rules.specs.Table.{stores, waits, reads, comesFrom, seesGets, seesGetx}
+use Rattle.rules.specs.Table.{stores, waits, isReader, comesFrom, seesGets, seesGetx}
 use Rattle.rules.specs.Chassis.{Block, idle, goes}
 use Rattle.rules.specs.Order.{
-  Turn,
-  GetsGranted,
-  GetxGranted,
-  GetsMissed,
-  GetxMissed,
-  PutTaken,
-  PutLapsed,
   given,
   memoryAfter,
   ownerAfter,
@@ -30,10 +23,19 @@ use Rattle.rules.specs.Order.{
   ordered,
 }
 use Rattle.rules.specs.declared.kinds.Cell.{Cell}
+use Rattle.rules.specs.declared.kinds.Turn.{Turn}
+use Rattle.rules.specs.declared.kinds.Turn.the-variants.{
+  GetsGranted,
+  GetxGranted,
+  GetsMissed,
+  GetxMissed,
+  PutTaken,
+  PutLapsed,
+}
 use Rattle.rules.specs.declared.kinds.Request.{Request}
 use Rattle.rules.proofs.Tests.{clash, test, cond-cases, false-if, or-i}
 use Rattle.rules.proofs.Lists.{All-map}
-use Rattle.rules.proofs.Masks.{has-both-l, has-both-r, has-only}
+use Rattle.rules.proofs.Masks.{has-union-l, has-union-r, has-only}
 use Rattle.rules.proofs.Board.{Write, pick, here}
 use Rattle.rules.proofs.Invariant.{owns, shares, CellOk, BlockOk}
 use Rattle.rules.proofs.States.{
@@ -128,14 +130,14 @@ module _ {cards : ℕ} {B : Block} {ws : List Write} {d : ℕ} (ok : BlockOk car
       calm-seen cards owner sharers memory current q n j (B .cell j) (B .cell j) h (ok .cells j .inside) (λ _ _ p. p)
 
   -- a reader that moves
-  reader-moves : (owner sharers memory current q n j : ℕ) → reads (B .cell j .state) ≡ true
+  reader-moves : (owner sharers memory current q n j : ℕ) → isReader (B .cell j .state) ≡ true
       → Seen cards owner sharers memory current q n j (B .cell j) (goes (seesGetx (B .cell j .state)) (B .cell j))
   reader-moves owner sharers memory current q n j h =
       let s = B .cell j .state in
       let l = ok .cells j .code in
       calm-seen cards owner sharers memory current q n j (B .cell j) (goes (seesGetx s) (B .cell j))
       (getx-calm s l (rw h))
-      (λ _. ok .cells j .inside (state s l .reads-there h))
+      (λ _. ok .cells j .inside (state s l .reader-there h))
       (λ kind _ p. asking kind s l p .getx-stands)
 
   -- an idle cell that sees a request stays idle, and is all right beside anything
@@ -157,7 +159,7 @@ module _ {cards : ℕ} {B : Block} {ws : List Write} {d : ℕ} (ok : BlockOk car
         let o = B .owner in
         let kept = cond (eqb o home) (B .sharers) (only o) in
         let current = pick here ws d in
-        let Sees : ℕ → Cell → Type 0 = λ j y. Seen cards home (both kept (only q)) (given B) current q n j (B .cell j) y in
+        let Sees : ℕ → Cell → Type 0 = λ j y. Seen cards home (union kept (only q)) (given B) current q n j (B .cell j) y in
         let rest : (j : ℕ) → o ≢ j → Sees j (B .cell j) = λ j no′.
         let x = ok .cells j in
         let s = state (B .cell j .state) (x .code) in
@@ -167,7 +169,7 @@ module _ {cards : ℕ} {B : Block} {ws : List Write} {d : ℕ} (ok : BlockOk car
             code = x .code;
             inside = x .inside;
             owned = λ p. absurd (no′ (x .owned p));
-            shared = λ p. (refl, has-both-l kept (only q) j (rw (eq-eqb o home (x .shared p .0)) (x .shared p .1)));
+            shared = λ p. (refl, has-union-l kept (only q) j (rw (eq-eqb o home (x .shared p .0)) (x .shared p .1)));
             copied = λ p. x .copied p ∙ sym (given-home ok few free (x .shared (s .copies-shares p owns-not) .0));
             written = λ p. absurd (no′ (x .owned (stores-own ok j p)));
           };
@@ -185,7 +187,7 @@ module _ {cards : ℕ} {B : Block} {ws : List Write} {d : ℕ} (ok : BlockOk car
                   code = t .code;
                   inside = λ _. ok .cells j .inside (t .there);
                   owned = λ p. absurd (clash p (t .owns-not));
-                  shared = λ _. (refl, has-both-r kept (only q) j (subst (λ i. has (only q) i ≡ true) e (has-only q)));
+                  shared = λ _. (refl, has-union-r kept (only q) j (subst (λ i. has (only q) i ≡ true) e (has-only q)));
                   copied = λ p. absurd (clash p (t .copies-not));
                   written = λ p. absurd (clash p (t .stores-not));
                 };
@@ -193,7 +195,7 @@ module _ {cards : ℕ} {B : Block} {ws : List Write} {d : ℕ} (ok : BlockOk car
                 stands = λ _ ne. absurd (ne e);
               })
               (λ ne e. test (eqb s I)
-              (λ i. idle-moves home (both kept (only q)) (given B) current q n j (seesGets s) i (rw (eqb-true s I i) gets-idle))
+              (λ i. idle-moves home (union kept (only q)) (given B) current q n j (seesGets s) i (rw (eqb-true s I i) gets-idle))
               (λ i. let t = gave s l (owner-card ok few free j e i) in record {
                 cell-ok = record {
                   code = t .code;
@@ -201,7 +203,7 @@ module _ {cards : ℕ} {B : Block} {ws : List Write} {d : ℕ} (ok : BlockOk car
                   owned = λ p. absurd (clash p (t .owns-not));
                   shared = λ _. (
                     refl,
-                    has-both-l kept (only q) j (rw (ne-eqb o home (λ f. there ok few j i (sym e ∙ f)))
+                    has-union-l kept (only q) j (rw (ne-eqb o home (λ f. there ok few j i (sym e ∙ f)))
                         (subst (λ i. has (only o) i ≡ true) e (has-only o))),
                   );
                   copied = λ p. rw (t .copies-loads p) (sym (given-owner ok few free j e i));
@@ -234,7 +236,7 @@ module _ {cards : ℕ} {B : Block} {ws : List Write} {d : ℕ} (ok : BlockOk car
               let x = B .cell j in
               let s = x .state in
               let l = ok .cells j .code in
-              let reader : shares s ≡ true → reads s ≡ true = λ p. state s l .shares-reads p (free j) in
+              let reader : shares s ≡ true → isReader s ≡ true = λ p. state s l .shares-reader p (free j) in
               sees-cases (Sees j) GetxGranted B r n j
               (λ e. let t = granted-getx s l (subst (λ i. comesFrom getx (B .cell i .state) ≡ true) e asks) in record {
                 cell-ok = record {
@@ -252,14 +254,14 @@ module _ {cards : ℕ} {B : Block} {ws : List Write} {d : ℕ} (ok : BlockOk car
               (λ ne e. test (eqb s I)
               (λ i. idle-moves q 0 (given B) current q n j (seesGetx s) i (rw (eqb-true s I i) getx-idle))
               (λ i. calm-seen cards q 0 (given B) current q n j x (goes (seesGetx s) x)
-              (getx-calm s l (or-i {a = reads s} (λ _. owner-card ok few free j e i)))
+              (getx-calm s l (or-i {a = isReader s} (λ _. owner-card ok few free j e i)))
               (λ _. ok .cells j .inside i)
               (λ kind _ p. asking kind s l p .getx-stands)))
-              (λ ne no′ _. cond-cases (Sees j) (reads s) (goes (seesGetx s) x) x
+              (λ ne no′ _. cond-cases (Sees j) (isReader s) (goes (seesGetx s) x) x
               (λ g. reader-moves q 0 (given B) current q n j g)
               (λ g. calm j no′ (λ p. clash (reader p) g)))
               (λ ne no′ h. calm j no′ (λ p.
-              clash (enough j (ok .cells j .inside (state s l .reads-there (reader p))) (ok .cells j .shared p .1) ne) h));
+              clash (enough j (ok .cells j .inside (state s l .reader-there (reader p))) (ok .cells j .shared p .1) ne) h));
           owner-ok = λ _. rw (eq-eqb q q refl) (asked .owned);
           writes = tt;
           memory-is = given-current ok few free;
@@ -267,15 +269,15 @@ module _ {cards : ℕ} {B : Block} {ws : List Write} {d : ℕ} (ok : BlockOk car
 
     -- a missed GETX: its readers move
     missed-cases : (P : ℕ → Cell → Type 0) → ((j : ℕ) → P j (B .cell j))
-        → ((j : ℕ) → reads (B .cell j .state) ≡ true → P j (goes (seesGetx (B .cell j .state)) (B .cell j)))
+        → ((j : ℕ) → isReader (B .cell j .state) ≡ true → P j (goes (seesGetx (B .cell j .state)) (B .cell j)))
         → (j : ℕ) → P j (sees GetxMissed B r n j)
     unfolding askerSees ownerSees readerSees
     missed-cases P f g j = sees-cases (P j) GetxMissed B r n j (λ _. f j) (λ _ _. f j)
-        (λ _ _ _. cond-cases (P j) (reads (B .cell j .state)) (goes (seesGetx (B .cell j .state)) (B .cell j)) (B .cell j)
+        (λ _ _ _. cond-cases (P j) (isReader (B .cell j .state)) (goes (seesGetx (B .cell j .state)) (B .cell j)) (B .cell j)
         (λ h. g j h) (λ _. f j)) (λ _ _ _. f j)
 
-    not-reader : (j : ℕ) → owns (B .cell j .state) ≡ true → reads (B .cell j .state) ≡ true → ⊥
-    not-reader j p h = clash h (state (B .cell j .state) (ok .cells j .code) .owns-reads p)
+    not-reader : (j : ℕ) → owns (B .cell j .state) ≡ true → isReader (B .cell j .state) ≡ true → ⊥
+    not-reader j p h = clash h (state (B .cell j .state) (ok .cells j .code) .owns-reader p)
 
     pub getx-missed : Ordered cards B (ordered GetxMissed B r n) (r .card) n ws d
     unfolding ordered memoryAfter ownerAfter sharersAfter

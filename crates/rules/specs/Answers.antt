@@ -10,7 +10,7 @@ use Rattle.rules.specs.declared.kinds.Refusal.the-variants.{
   NoSuchCard,
   NoSuchBlock,
   NoRight,
-  NoSuchAsk,
+  AskNotAllowed,
   NoSuchKind,
   StrangerInMask,
   LineFull,
@@ -28,7 +28,7 @@ abbrev pub refusalNo : Refusal → ℕ
 refusalNo NoSuchCard = 1
 refusalNo NoSuchBlock = 2
 refusalNo NoRight = 3
-refusalNo NoSuchAsk = 4
+refusalNo AskNotAllowed = 4
 refusalNo NoSuchKind = 5
 refusalNo StrangerInMask = 6
 refusalNo LineFull = 7
@@ -52,12 +52,12 @@ valueOf (Done v) = v
 valueOf (Refused r) = 0
 
 -- an event's answer, and the chassis after it
-pub record Outcome : Type 0 where
+pub record Result : Type 0 where
   pub answer : Answer
   pub after : Chassis
 
-abbrev pub outcome : Answer → Chassis → Outcome
-outcome a c = record { answer = a; after = c }
+abbrev pub result : Answer → Chassis → Result
+result a c = record { answer = a; after = c }
 
 -- a refusal, and when it is given
 pub record Reason : Type 0 where
@@ -69,6 +69,6 @@ abbrev pub _if_ : Refusal → Bool → Reason
 r if t = record { why = r; holds = t }
 
 -- the first reason that holds refuses "and keeps the state"; where none does, the event is done
-unfoldable pub refusedBy : Chassis → List Reason → Outcome → Outcome
+unfoldable pub refusedBy : Chassis → List Reason → Result → Result
 refusedBy c [] done = done
-refusedBy c (r ∷ rs) done = cond (r .holds) (outcome (Refused (r .why)) c) (refusedBy c rs done)
+refusedBy c (r ∷ rs) done = cond (r .holds) (result (Refused (r .why)) c) (refusedBy c rs done)

@@ -2,7 +2,7 @@
 use Prim.Native.Nat.{ℕ}
 use mathlib.Core.Bool.{cond}
 use mathlib.Core.List.{List, []}
-use Rattle.rules.specs.Lists.{put}
+use Rattle.rules.specs.Lists.{replace}
 use Rattle.rules.specs.Numbers.{home, I}
 use Rattle.rules.specs.Table.{loads}
 use Rattle.rules.specs.declared.kinds.OrderNo.{OrderNo}
@@ -66,14 +66,14 @@ goes s x = goesFor 0 s x
 
 -- block B with card k's cell anew
 abbrev pub withCell : Block → ℕ → Cell → Block
-withCell B k x = record { memory = B .memory; owner = B .owner; sharers = B .sharers; cell = put (B .cell) k x }
+withCell B k x = record { memory = B .memory; owner = B .owner; sharers = B .sharers; cell = replace (B .cell) k x }
 
 -- the chassis with block b, the line, the pool and the last number anew
 abbrev pub changed : Chassis → ℕ → Block → List Request → List Message → ℕ → Chassis
 changed c b B line pool last = record {
   cards = c .cards;
   blocks = c .blocks;
-  block = put (c .block) b B;
+  block = replace (c .block) b B;
   line = line;
   pool = pool;
   last = record { 0 = last };

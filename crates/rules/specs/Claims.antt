@@ -1,16 +1,17 @@
 -- What is proved of the rules. Each claim is proved under its own name, in small letters, in proofs/.
-use Prim.Native.Nat.{ℕ}
+use Prim.Native.Nat.{ℕ, _≤_}
 use mathlib.Core.Bool.{true}
 use mathlib.Core.List.{List}
 use mathlib.Core.Path.{_≡_}
 use Rattle.rules.specs.Tests.{allOf}
+use Rattle.rules.specs.Numbers.{lastNumber}
 use Rattle.rules.specs.Chassis.{Chassis, fresh}
-use Rattle.rules.specs.Answers.{outcome}
+use Rattle.rules.specs.Answers.{result}
 use Rattle.rules.specs.Formed.{wellFormed}
 use Rattle.rules.specs.Events.{step, start}
 use Rattle.rules.specs.History.{run}
 use Rattle.rules.specs.Demand.{Coherent}
-use Rattle.rules.specs.Marked.{plays, table, slips}
+use Rattle.rules.specs.Marked.{plays, markedTable, slips}
 use Rattle.rules.specs.declared.kinds.Answer.the-variants.{Done, Refused}
 use Rattle.rules.specs.declared.kinds.Refusal.{Refusal}
 use Rattle.rules.specs.declared.kinds.Refusal.the-variants.{IllFormed}
@@ -18,30 +19,35 @@ use Rattle.rules.specs.declared.kinds.Event.{Event}
 
 -- M1 to M10
 abbrev pub Marked-hold : Type 0
-Marked-hold = allOf table (plays (fresh 0 0)) ≡ true
+Marked-hold = allOf markedTable (plays (fresh 0 0)) ≡ true
 
 -- the slips that M1 to M10 do not show
 abbrev pub Slips-hold : Type 0
 Slips-hold = allOf slips (plays (fresh 0 0)) ≡ true
 
--- Demand 1: "A refused event changes nothing in the chassis"
+-- the customer's first demand: "A refused event changes nothing in the chassis"
 abbrev pub Refused-keeps : Type 0
 Refused-keeps = (c : Chassis) (e : Event) (r : Refusal) → step c e .answer ≡ Refused r → step c e .after ≡ c
 
 -- an accepted Start makes a well formed state
 abbrev pub Start-formed : Type 0
-Start-formed = (cards blocks : ℕ) → start cards blocks .answer ≡ Done 0 → wellFormed (start cards blocks .after) ≡ true
+Start-formed = (cards blocks v : ℕ) → start cards blocks .answer ≡ Done v → wellFormed (start cards blocks .after) ≡ true
 
--- the state that a refused Start answers is refused with 15 by every event
+-- a refused Start answers the state of 0 cards and 0 blocks, which every event refuses with 15
 abbrev pub Refused-start : Type 0
-Refused-start = (cards blocks : ℕ) (r : Refusal) → start cards blocks .answer ≡ Refused r
-    → (e : Event) → step (start cards blocks .after) e ≡ outcome (Refused IllFormed) (start cards blocks .after)
+Refused-start = (cards blocks : ℕ) (r : Refusal) → start cards blocks .answer ≡ Refused r → (start cards blocks .after ≡ fresh 0 0)
+    × ((e : Event) → step (fresh 0 0) e ≡ result (Refused IllFormed) (fresh 0 0))
 
 -- a well formed state stays well formed under every event
 abbrev pub Stays-formed : Type 0
 Stays-formed = (c : Chassis) (e : Event) → wellFormed c ≡ true → wellFormed (step c e .after) ≡ true
 
+-- the last order number is "64 bits wide, never set back"
+abbrev pub Never-set-back : Type 0
+Never-set-back = (c : Chassis) (e : Event) → c .last .0 ≤ lastNumber
+    → (c .last .0 ≤ step c e .after .last .0) × (step c e .after .last .0 ≤ lastNumber)
+
 -- Demand 3: "In any sequence of events other than Start from a freshly started chassis"
 abbrev pub Demand-3 : Type 0
-Demand-3 = (cards blocks : ℕ) → start cards blocks .answer ≡ Done 0
+Demand-3 = (cards blocks v : ℕ) → start cards blocks .answer ≡ Done v
     → (es : List Event) → Coherent (run (start cards blocks .after) es)

@@ -1,12 +1,11 @@
--- Demand 3: a field for each sentence of it.
+-- Demand 3, sentence by sentence. Its last field is what the engine needs besides.
 use Prim.Native.Nat.{ℕ}
-use mathlib.Core.Bool.{true, false}
+use mathlib.Core.Bool.{Bool, true, false}
 use mathlib.Core.List.{List, [], _∷_, _++_, List·Memᴰ}
 use mathlib.Core.Path.{_≡_}
 use mathlib.Core.Logic.{_≢_}
 use Rattle.rules.specs.Lists.{All}
-use Rattle.rules.specs.Table.{loads, stores}
-use Rattle.rules.specs.Chassis.{stateOf}
+use Rattle.rules.specs.Chassis.{Chassis}
 use Rattle.rules.specs.Events.{step}
 use Rattle.rules.specs.History.{
   Did,
@@ -23,11 +22,13 @@ use Rattle.rules.specs.History.{
   lastStore,
   written,
 }
-use Rattle.rules.specs.declared.kinds.Answer.the-variants.{Refused}
+use Rattle.rules.specs.declared.kinds.Answer.{Answer}
+use Rattle.rules.specs.declared.kinds.Answer.the-variants.{Done, Refused}
 use Rattle.rules.specs.declared.kinds.Refusal.the-variants.{Impossible, IllFormed}
 use Rattle.rules.specs.declared.kinds.Event.{Event}
+use Rattle.rules.specs.declared.kinds.Event.the-variants.{Load, Store}
 
--- each load of the log returned the last store before it that had not been struck by then, or 0
+-- each accepted load of the log returned the last earlier accepted store to its block that had not been struck by then, or 0
 abbrev pub LoadsLast : List Did → Type 0
 LoadsLast [] = Unit {0}
 LoadsLast (loaded k b v ∷ log) = (v ≡ lastStore b (written log)) × LoadsLast log
@@ -43,17 +44,25 @@ pub record StruckByRejoin (log : List Did) (w : Written) : Type 0 where
   pub at-rejoin : log ≡ later ++ rejoined (w .card) ∷ earlier
   pub unsettled-then : List·Memᴰ (withFate unsettled w) (written earlier)
 
+-- the event would be accepted
+abbrev pub isDone : Answer → Bool
+isDone (Done v) = true
+isDone (Refused r) = false
+
+unfoldable pub accepts : Chassis → Event → Bool
+accepts c e = isDone (step c e .answer)
+
 pub record Coherent (r : Run) : Type 0 where
   -- "each accepted load returns the last earlier accepted store to its block that has not been struck by then, or 0"
   pub loads-last : LoadsLast (r .log)
   -- "The only struck stores are those that a rejoining card made and home had not yet settled"
   pub struck-by-rejoin : All (λ w. w .fate ≡ struck → StruckByRejoin (r .log) w) (written (r .log))
-  -- "no other card ever loaded one"
+  -- "no other card ever loaded one": not before it was struck; and after, a load returns another store, by loads-last
   pub struck-unseen : All (λ w. w .fate ≡ struck → All (λ k. k ≡ w .card) (w .loaders)) (written (r .log))
   -- "While one card may store to a block, no other card may load or store it"
-  pub one-storer : (j k b : ℕ) → j ≢ k → stores (stateOf (r .now) j b) ≡ true
-      → (loads (stateOf (r .now) k b) ≡ false) × (stores (stateOf (r .now) k b) ≡ false)
+  pub one-storer : (j k b v u : ℕ) → j ≢ k → accepts (r .now) (Store j b v) ≡ true
+      → (accepts (r .now) (Load k b) ≡ false) × (accepts (r .now) (Store k b u) ≡ false)
   -- "The refusal for an impossible state is never given"
   pub never-impossible : (e : Event) → step (r .now) e .answer ≢ Refused Impossible
-  -- nor that for an ill formed one
+  -- nor is that for an ill formed one
   pub never-ill-formed : (e : Event) → step (r .now) e .answer ≢ Refused IllFormed

@@ -4,7 +4,7 @@ use mathlib.Core.Bool.{Bool, cond, not, _&&_}
 use mathlib.Core.List.{List, [], _∷_, _++_}
 use lib.ListN.{length, getD}
 use lib.Dec.{eqb, leb}
-use Rattle.rules.specs.Lists.{put, removed, keep}
+use Rattle.rules.specs.Lists.{replace, removed, keep}
 use Rattle.rules.specs.Masks.{only, without, inside}
 use Rattle.rules.specs.Numbers.{home, room, gets, putx, none, taken, stale}
 use Rattle.rules.specs.Table.{loads, stores, drops, waits, asked, filledTo}
@@ -21,7 +21,7 @@ use Rattle.rules.specs.Chassis.{
   cellChanged,
   poolChanged,
 }
-use Rattle.rules.specs.Answers.{Outcome, outcome, Reason, _if_, refusedBy}
+use Rattle.rules.specs.Answers.{Result, result, Reason, _if_, refusedBy}
 use Rattle.rules.specs.Order.{order, orderReasons}
 use Rattle.rules.specs.Formed.{sizes, wellFormed}
 use Rattle.rules.specs.declared.kinds.Cell.{Cell}
@@ -32,7 +32,7 @@ use Rattle.rules.specs.declared.kinds.Refusal.the-variants.{
   NoSuchCard,
   NoSuchBlock,
   NoRight,
-  NoSuchAsk,
+  AskNotAllowed,
   NoSuchKind,
   StrangerInMask,
   LineFull,
@@ -80,7 +80,7 @@ reasons c (Ask k b kind mask) =
     noBlock c b ∷
     (NoSuchKind if not (leb gets kind && leb kind putx)) ∷
     (StrangerInMask if not (inside (c .cards) mask)) ∷
-    (NoSuchAsk if eqb (asked kind (stateOf c k b)) none) ∷
+    (AskNotAllowed if eqb (asked kind (stateOf c k b)) none) ∷
     (LineFull if leb room (length (c .line))) ∷ []
 reasons c Order = orderReasons c (c .line)
 -- "Deliver: 11"
@@ -116,19 +116,19 @@ messageAt c i = getD (c .pool) i (record { sender = 0; receiver = 0; block = 0; 
 unfoldable pub live : Block → Message → Bool
 live B m = let x = B .cell (m .receiver) in waits (x .state) && eqb (x .awaits .0) (m .number .0)
 
--- "it takes the value and goes to 1, 2 or 2"
+-- "it takes the value and goes to 1, 2 or 2": also from 8, where "a move between two Load states" would keep the old one
 abbrev pub takes : Message → Cell → Cell
 takes m x = record { state = filledTo (x .state); value = m .value; awaits = record { 0 = 0 } }
 
 -- "(outcome 1). Otherwise the message is stale (outcome 2). It leaves the pool either way; later ones close up."
-unfoldable pub deliver : Chassis → ℕ → Message → Outcome
+unfoldable pub deliver : Chassis → ℕ → Message → Result
 deliver c i m =
     let B = c .block (m .block) in
     let rest = removed i (c .pool) in
     cond (live B m)
-    (outcome (Done taken)
+    (result (Done taken)
     (changed c (m .block) (withCell B (m .receiver) (takes m (B .cell (m .receiver)))) (c .line) rest (c .last .0)))
-    (outcome (Done stale) (poolChanged c rest))
+    (result (Done stale) (poolChanged c rest))
 
 -- Rejoin
 
@@ -138,7 +138,7 @@ rejoinBlock k B = record {
   memory = B .memory;
   owner = cond (eqb (B .owner) k) home (B .owner);
   sharers = without (B .sharers) (only k);
-  cell = put (B .cell) k idle;
+  cell = replace (B .cell) k idle;
 }
 
 -- "its requests leave the line (the rest close up)"; "pool and order number stay"
@@ -154,22 +154,22 @@ rejoin c k = record {
 
 -- Every event
 
-unfoldable pub effect : Chassis → Event → Outcome
-effect c (Load k b) = outcome (Done (cellOf c k b .value)) c
-effect c (Store k b v) = outcome (Done 0) (cellChanged c k b (storing v (cellOf c k b)))
+unfoldable pub effect : Chassis → Event → Result
+effect c (Load k b) = result (Done (cellOf c k b .value)) c
+effect c (Store k b v) = result (Done 0) (cellChanged c k b (storing v (cellOf c k b)))
 -- "S becomes I, home is not told"
-effect c (Drop k b) = outcome (Done 0) (cellChanged c k b idle)
-effect c (Ask k b kind mask) = outcome (Done 0) (ask c k b kind mask)
+effect c (Drop k b) = result (Done 0) (cellChanged c k b idle)
+effect c (Ask k b kind mask) = result (Done 0) (ask c k b kind mask)
 effect c Order = order c (c .line)
 effect c (Deliver i) = deliver c i (messageAt c i)
 -- "the message again, at the pool's tail"
-effect c (Copy i) = outcome (Done 0) (poolChanged c (c .pool ++ messageAt c i ∷ []))
-effect c (Rejoin k) = outcome (Done 0) (rejoin c k)
+effect c (Copy i) = result (Done 0) (poolChanged c (c .pool ++ messageAt c i ∷ []))
+effect c (Rejoin k) = result (Done 0) (rejoin c k)
 
 -- "15 comes first wherever a state is handed in, so at every event but Start"
-unfoldable pub step : Chassis → Event → Outcome
+unfoldable pub step : Chassis → Event → Result
 step c e = refusedBy c ((IllFormed if not (wellFormed c)) ∷ reasons c e) (effect c e)
 
--- Start: 14 "outside 1 to 8 cards or 1 to 32 blocks; whatever refuses to make a state answers one of 0 cards and 0 blocks"
-unfoldable pub start : ℕ → ℕ → Outcome
-start cards blocks = refusedBy (fresh 0 0) ((NoSuchSize if not (sizes cards blocks)) ∷ []) (outcome (Done 0) (fresh cards blocks))
+-- Start: 14 "outside 1 to 8 cards or 1 to 32 blocks; whatever refuses to make a state answers one of 0 cards and 0 blocks, all places unused"
+unfoldable pub start : ℕ → ℕ → Result
+start cards blocks = refusedBy (fresh 0 0) ((NoSuchSize if not (sizes cards blocks)) ∷ []) (result (Done 0) (fresh cards blocks))

@@ -2,6 +2,7 @@
 use Prim.Native.Nat.{ℕ}
 use mathlib.Core.Bool.{Bool, true, false, cond, not, _&&_, _||_}
 use mathlib.Core.List.{List, [], _∷_, map}
+use lib.ListN.{length}
 use lib.Dec.{eqb}
 use Rattle.rules.specs.Numbers.{granted, putTaken}
 use Rattle.rules.specs.Chassis.{Chassis}
@@ -40,18 +41,18 @@ headBlock [] = 0
 headBlock (r ∷ rest) = r .block
 
 -- what an accepted event with this value did: an "Order .. with outcome 1 or 3" settles the head's block
-unfoldable pub accepted : Chassis → Event → ℕ → Did
-accepted c (Load k b) v = loaded k b v
-accepted c (Store k b v) _ = stored k b v
-accepted c (Drop k b) _ = quiet
-accepted c (Ask k b kind mask) _ = quiet
-accepted c Order n = cond (eqb n granted || eqb n putTaken) (settles (headBlock (c .line))) quiet
-accepted c (Deliver i) _ = quiet
-accepted c (Copy i) _ = quiet
-accepted c (Rejoin k) _ = rejoined k
+unfoldable pub didAccepted : Chassis → Event → ℕ → Did
+didAccepted c (Load k b) v = loaded k b v
+didAccepted c (Store k b v) _ = stored k b v
+didAccepted c (Drop k b) _ = quiet
+didAccepted c (Ask k b kind mask) _ = quiet
+didAccepted c Order n = cond (eqb n granted || eqb n putTaken) (settles (headBlock (c .line))) quiet
+didAccepted c (Deliver i) _ = quiet
+didAccepted c (Copy i) _ = quiet
+didAccepted c (Rejoin k) _ = rejoined k
 
 unfoldable pub did : Chassis → Event → Answer → Did
-did c e (Done v) = accepted c e v
+did c e (Done v) = didAccepted c e v
 did c e (Refused r) = quiet
 
 -- a chassis, and the log of what led to it, newest first
@@ -72,8 +73,9 @@ run c (e ∷ es) =
 pub data Fate : Type 0 where
   unsettled settled struck : Fate
 
--- an accepted store: who made it, where and of what value; the cards that loaded it; what became of it
+-- an accepted store: how many were made before it, who made it, where and of what value; the cards that loaded it; what became of it
 pub record Written : Type 0 where
+  pub serial : ℕ
   pub card : ℕ
   pub block : ℕ
   pub value : ℕ
@@ -81,12 +83,30 @@ pub record Written : Type 0 where
   pub fate : Fate
 
 -- a store just made
-abbrev pub made : ℕ → ℕ → ℕ → Written
-made k b v = record { card = k; block = b; value = v; loaders = []; fate = unsettled }
+abbrev pub made : ℕ → ℕ → ℕ → ℕ → Written
+made n k b v = record { serial = n; card = k; block = b; value = v; loaders = []; fate = unsettled }
 
 -- the store with another fate
 abbrev pub withFate : Fate → Written → Written
-withFate f w = record { card = w .card; block = w .block; value = w .value; loaders = w .loaders; fate = f }
+withFate f w = record {
+  serial = w .serial;
+  card = w .card;
+  block = w .block;
+  value = w .value;
+  loaders = w .loaders;
+  fate = f;
+}
+
+-- the store with one more loader
+abbrev pub withLoader : ℕ → Written → Written
+withLoader k w = record {
+  serial = w .serial;
+  card = w .card;
+  block = w .block;
+  value = w .value;
+  loaders = k ∷ w .loaders;
+  fate = w .fate;
+}
 
 -- f where the store is unsettled, else its fate as it is
 unfoldable pub meets : Fate → Fate → Fate
@@ -119,15 +139,13 @@ lastStore b (w ∷ ws) = cond (counts b w) (w .value) (lastStore b ws)
 -- card k loads block b: it is one more loader of that store
 unfoldable pub loadedBy : ℕ → ℕ → List Written → List Written
 loadedBy k b [] = []
-loadedBy k b (w ∷ ws) = cond (counts b w)
-    (record { card = w .card; block = w .block; value = w .value; loaders = k ∷ w .loaders; fate = w .fate } ∷ ws)
-    (w ∷ loadedBy k b ws)
+loadedBy k b (w ∷ ws) = cond (counts b w) (withLoader k w ∷ ws) (w ∷ loadedBy k b ws)
 
 -- every store of a log, newest first, with what became of it by the log's end
 unfoldable pub written : List Did → List Written
 written [] = []
 written (loaded k b v ∷ log) = loadedBy k b (written log)
-written (stored k b v ∷ log) = made k b v ∷ written log
+written (stored k b v ∷ log) = made (length (written log)) k b v ∷ written log
 written (settles b ∷ log) = map (settle b) (written log)
 written (rejoined k ∷ log) = map (strike k) (written log)
 written (quiet ∷ log) = written log

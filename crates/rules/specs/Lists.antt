@@ -7,8 +7,8 @@ use lib.Dec.{eqb}
 
 module _ {A : Type 0} where
   -- f with x at place i
-  unfoldable pub put : (ℕ → A) → ℕ → A → ℕ → A
-  put f i x j = cond (eqb i j) x (f j)
+  unfoldable pub replace : (ℕ → A) → ℕ → A → ℕ → A
+  replace f i x j = cond (eqb i j) x (f j)
 
   -- the list without the element at place i: later ones close up
   unfoldable pub removed : ℕ → List A → List A

@@ -1,4 +1,4 @@
--- "Marked sequences": M1 to M10 of the paper as one table, in the paper's words and numbers. All of them are about block 0.
+-- "Marked sequences": M1 to M10 of the paper as one table, in the paper's words and numbers. What they show is block 0.
 use Prim.Native.Nat.{ℕ, _-_}
 use mathlib.Core.Bool.{Bool, true, _&&_}
 use mathlib.Core.List.{List, [], _∷_, _++_}
@@ -60,7 +60,8 @@ isLive i = shows (λ c. live (c .block 0) (messageAt c i))
 -- every line comes out so, from c
 unfoldable pub plays : Chassis → List Line → Bool
 plays c [] = true
-plays c (starts cards blocks n ∷ ls) = let o = start cards blocks in eqb (refusalOf (o .answer)) n && plays (o .after) ls
+plays c (starts cards blocks n ∷ ls) = let o = start cards blocks in
+    eqb (refusalOf (o .answer)) n && eqb (valueOf (o .answer)) 0 && plays (o .after) ls
 plays c (e gives v ∷ ls) = let o = step c e in
     eqb (refusalOf (o .answer)) 0 && eqb (valueOf (o .answer)) v && plays (o .after) ls
 plays c (e refused n ∷ ls) = let o = step c e in
@@ -174,11 +175,11 @@ m10 =
     Deliver 64 refused 11 ∷
     Deliver 63 gives 1 ∷ []
 
-unfoldable pub table : List (List Line)
+unfoldable pub markedTable : List (List Line)
 unfolding m1 m2 m3 m4 m5 m6 m7 m8 m9 m10
-table = m1 ∷ m2 ∷ m3 ∷ m4 ∷ m5 ∷ m6 ∷ m7 ∷ m8 ∷ m9 ∷ m10 ∷ []
+markedTable = m1 ∷ m2 ∷ m3 ∷ m4 ∷ m5 ∷ m6 ∷ m7 ∷ m8 ∷ m9 ∷ m10 ∷ []
 
--- "Slips seen before": M3, M5 and M8 show three of them; these show what no marked sequence does
+-- Two slips of the trade that no marked sequence shows
 
 -- "Testing 13 before 9: the owner of a held block may be in IM_D, so another card's GETS at the head would be called impossible"
 unfoldable pub heldComesFirst : List Line
@@ -189,7 +190,7 @@ heldComesFirst =
     Order gives 1 ∷ isIn 0 IM-D ∷
     Order refused 9 ∷ []
 
--- an owner that gave its value to a GETS is still listed: after M3 card 1's GETX has to name card 0
+-- the old owner is listed after a granted GETS: after M3 card 1's GETX has to name card 0
 unfoldable pub oldOwnerIsListed : List Line
 unfolding m3
 oldOwnerIsListed = m3 ++

@@ -16,9 +16,9 @@ only k = 2 ^ k
 unfoldable pub every : ℕ → ℕ
 every cards = 2 ^ cards - 1
 
--- the cards of either mask
-unfoldable pub both : ℕ → ℕ → ℕ
-both a b = bitOr a b
+-- the cards of one mask and of the other
+unfoldable pub union : ℕ → ℕ → ℕ
+union a b = bitOr a b
 
 -- the cards of a that are not in b
 unfoldable pub without : ℕ → ℕ → ℕ

@@ -6,7 +6,7 @@ use mathlib.Core.List.{List, [], _∷_, _++_}
 use lib.ListN.{length}
 use lib.Dec.{eqb, leb}
 use Rattle.rules.specs.Tests.{_⇒_, any, all, some}
-use Rattle.rules.specs.Masks.{has, only, every, both}
+use Rattle.rules.specs.Masks.{has, only, every, union}
 use Rattle.rules.specs.Numbers.{
   home,
   room,
@@ -23,17 +23,26 @@ use Rattle.rules.specs.Table.{
   seesGets,
   seesGetx,
   waits,
-  reads,
-  gives,
+  isReader,
+  canGive,
   comesFrom,
   putStands,
   grantedTo,
 }
 use Rattle.rules.specs.Chassis.{Block, Chassis, idle, goes, goesFor, changed}
-use Rattle.rules.specs.Answers.{Outcome, outcome, Reason, _if_}
+use Rattle.rules.specs.Answers.{Result, result, Reason, _if_}
 use Rattle.rules.specs.declared.kinds.Cell.{Cell}
 use Rattle.rules.specs.declared.kinds.Request.{Request}
 use Rattle.rules.specs.declared.kinds.Message.{Message}
+use Rattle.rules.specs.declared.kinds.Turn.{Turn}
+use Rattle.rules.specs.declared.kinds.Turn.the-variants.{
+  GetsGranted,
+  GetxGranted,
+  GetsMissed,
+  GetxMissed,
+  PutTaken,
+  PutLapsed,
+}
 use Rattle.rules.specs.declared.kinds.Answer.the-variants.{Done}
 use Rattle.rules.specs.declared.kinds.Refusal.the-variants.{
   LineEmpty,
@@ -54,18 +63,18 @@ unfoldable pub impossible : Block → Request → Bool
 impossible B r =
     let q = r .card in
     let from = B .cell q .state in
-    let put = eqb (r .kind) putx in
+    let isPut = eqb (r .kind) putx in
     any (
     -- "GETS not from 3, GETX not from 4 or 5, PUTX not from 9 or 10"
     not (comesFrom (r .kind) from) ∷
     -- "for GETS and GETX the owner is q"
-    (not put && eqb (B .owner) q) ∷
+    (not isPut && eqb (B .owner) q) ∷
     -- "or a card not in 2 or 9"
-    (not put && not (eqb (B .owner) home) && not (gives (B .cell (B .owner) .state))) ∷
+    (not isPut && not (eqb (B .owner) home) && not (canGive (B .cell (B .owner) .state))) ∷
     -- "PUTX from 9 with another owner"
-    (put && putStands from && not (eqb (B .owner) q)) ∷
+    (isPut && putStands from && not (eqb (B .owner) q)) ∷
     -- "or from 10 with q as owner"
-    (put && not (putStands from) && eqb (B .owner) q) ∷ [])
+    (isPut && not (putStands from) && eqb (B .owner) q) ∷ [])
 
 -- 10: "pool full, .. at Order of GETS or GETX, whatever its mask"
 unfoldable pub noRoomFor : Chassis → Request → Bool
@@ -87,10 +96,7 @@ unfoldable pub suffices : ℕ → Block → Request → Bool
 suffices cards B r = (eqb (B .owner) home || has (r .mask) (B .owner))
     && (eqb (r .kind) gets || all cards (λ k. has (B .sharers) k ⇒ eqb k (r .card) || has (r .mask) k))
 
--- what comes of a head request
-pub data Turn : Type 0 where
-  GetsGranted GetxGranted GetsMissed GetxMissed PutTaken PutLapsed : Turn
-
+-- what comes of the head request
 unfoldable pub turn : ℕ → Block → Request → Turn
 turn cards B r = cond (eqb (r .kind) putx)
     (cond (putStands (B .cell (r .card) .state)) PutTaken PutLapsed)
@@ -133,7 +139,7 @@ ownerAfter PutLapsed B q = B .owner
 
 -- GETS: "the sharers become that card and q", or "With home as owner, q joins the sharers"; GETX and a put: "the sharers none"
 unfoldable pub sharersAfter : Turn → Block → ℕ → ℕ
-sharersAfter GetsGranted B q = both (cond (eqb (B .owner) home) (B .sharers) (only (B .owner))) (only q)
+sharersAfter GetsGranted B q = union (cond (eqb (B .owner) home) (B .sharers) (only (B .owner))) (only q)
 sharersAfter GetxGranted B q = 0
 sharersAfter GetsMissed B q = B .sharers
 sharersAfter GetxMissed B q = B .sharers
@@ -163,9 +169,9 @@ ownerSees PutLapsed x = x
 -- another card in the mask: "Cards in the mask, other than q, in states 1 and 5 move by the table", at GETX, granted or not
 unfoldable pub readerSees : Turn → Cell → Cell
 readerSees GetsGranted x = x
-readerSees GetxGranted x = cond (reads (x .state)) (goes (seesGetx (x .state)) x) x
+readerSees GetxGranted x = cond (isReader (x .state)) (goes (seesGetx (x .state)) x) x
 readerSees GetsMissed x = x
-readerSees GetxMissed x = cond (reads (x .state)) (goes (seesGetx (x .state)) x) x
+readerSees GetxMissed x = cond (isReader (x .state)) (goes (seesGetx (x .state)) x) x
 readerSees PutTaken x = x
 readerSees PutLapsed x = x
 
@@ -211,7 +217,7 @@ sent PutLapsed B r n = []
 -- "The new mask for retry 1 and 2 is the owner, if a card, and the sharers; for retry 3 it is every card."
 unfoldable pub retryMask : ℕ → Block → ℕ → ℕ
 retryMask cards B retry = cond (leb lastRetry retry) (every cards)
-    (cond (eqb (B .owner) home) (B .sharers) (both (only (B .owner)) (B .sharers)))
+    (cond (eqb (B .owner) home) (B .sharers) (union (only (B .owner)) (B .sharers)))
 
 -- the request, "retry one higher"
 unfoldable pub retried : ℕ → Block → Request → Request
@@ -234,14 +240,14 @@ again PutLapsed cards B r = []
 
 -- The whole
 
-unfoldable pub orderHead : Chassis → Request → List Request → Outcome
+unfoldable pub orderHead : Chassis → Request → List Request → Result
 orderHead c r rest =
     let B = c .block (r .block) in
     let n = suc (c .last .0) in
     let t = turn (c .cards) B r in
-    outcome (Done (outcomeNo t))
+    result (Done (outcomeNo t))
     (changed c (r .block) (ordered t B r n) (rest ++ again t (c .cards) B r) (c .pool ++ sent t B r n) n)
 
-unfoldable pub order : Chassis → List Request → Outcome
-order c [] = outcome (Done 0) c
+unfoldable pub order : Chassis → List Request → Result
+order c [] = result (Done 0) c
 order c (r ∷ rest) = orderHead c r rest

@@ -124,16 +124,16 @@ unfolding oneOf
 waits s = oneOf (IS-D ∷ IM-D ∷ SM-D ∷ []) s
 
 -- "in states 1 and 5": a reader, which another's GETX moves, granted or not
-unfoldable pub reads : ℕ → Bool
+unfoldable pub isReader : ℕ → Bool
 unfolding oneOf
-reads s = oneOf (S ∷ SM-AD ∷ []) s
+isReader s = oneOf (S ∷ SM-AD ∷ []) s
 
 -- "in 2 or 9": an owner that can give its value away
-unfoldable pub gives : ℕ → Bool
+unfoldable pub canGive : ℕ → Bool
 unfolding oneOf
-gives s = oneOf (M ∷ MI-A ∷ []) s
+canGive s = oneOf (M ∷ MI-A ∷ []) s
 
--- "GETS .. from 3, GETX .. from 4 or 5, PUTX .. from 9 or 10"; no request is of kind 0
+-- where a request of each kind comes from: what is "GETS not from 3, GETX not from 4 or 5, PUTX not from 9 or 10" is impossible
 abbrev pub askers : List (List ℕ)
 askers = [] ∷ (IS-AD ∷ []) ∷ (IM-AD ∷ SM-AD ∷ []) ∷ (MI-A ∷ II-A ∷ []) ∷ []
 

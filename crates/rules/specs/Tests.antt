@@ -10,7 +10,7 @@ abbrev pub _⇒_ : Bool → Bool → Bool
 true ⇒ b = b
 false ⇒ b = true
 
--- each test of a list of tests holds; one of them does
+-- each test of a list of tests holds; any one of them does
 unfoldable pub each : List Bool → Bool
 each [] = true
 each (t ∷ ts) = t && each ts

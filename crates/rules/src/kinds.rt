@@ -1,4 +1,4 @@
-// The kinds of the chassis, as the paper names them.
+// The kinds of the chassis.
 
 // An order number: what home gives each ordered request, and what a reply is matched by.
 pub struct OrderNo(pub u64);
@@ -69,7 +69,7 @@ pub enum Refusal {
     NoSuchCard,
     NoSuchBlock,
     NoRight,
-    NoSuchAsk,
+    AskNotAllowed,
     NoSuchKind,
     StrangerInMask,
     LineFull,
@@ -87,4 +87,14 @@ pub enum Refusal {
 pub enum Answer {
     Done(u32),
     Refused(Refusal),
+}
+
+// What comes of the request at the head of the line.
+pub enum Turn {
+    GetsGranted,
+    GetxGranted,
+    GetsMissed,
+    GetxMissed,
+    PutTaken,
+    PutLapsed,
 }

@@ -1,4 +1,4 @@
-// The rules of the chassis: the kinds that the paper names, its card state table, and the answers' numbers.
+// The rules of the chassis: the paper's kinds, its numbers by name, and its card state table.
 // What the events do is defined in specs/; docs/READING.md says in which order to read it.
 pub mod kinds;
 pub mod numbers;

@@ -7,7 +7,7 @@ pub const MOST_BLOCKS: u8 = 32;
 
 pub const ROOM: usize = 64;
 
-pub const STATES: u8 = 11;
+pub const STATES: usize = 11;
 
 // Home, where a card number would stand.
 pub const HOME: u8 = 255;

@@ -15,6 +15,7 @@ use crate::numbers::PUTX;
 use crate::numbers::S;
 use crate::numbers::SM_AD;
 use crate::numbers::SM_D;
+use crate::numbers::STATES;
 ghost use mathlib.Core.Path.{_≡_};
 ghost use mathlib.Core.Bool.{true, false, cond};
 ghost use lib.ListN.{getD};
@@ -32,8 +33,8 @@ ghost use Rattle.rules.specs.Table.{
   seesGetx,
   drops,
   waits,
-  reads,
-  gives,
+  isReader,
+  canGive,
   comesFrom,
   putStands,
   grantedTo,
@@ -42,7 +43,7 @@ ghost use Rattle.rules.specs.Table.{
 
 // Rights
 
-const LOADS: [bool; 11] = [
+const LOADS: [bool; STATES] = [
     false, // I
     true, // S
     true, // M
@@ -56,7 +57,7 @@ const LOADS: [bool; 11] = [
     false, // II_A
 ];
 
-const STORES: [bool; 11] = [
+const STORES: [bool; STATES] = [
     false, // I
     false, // S
     true, // M
@@ -72,7 +73,7 @@ const STORES: [bool; 11] = [
 
 // The next state, where each kind of ask leads
 
-const ASKS_GETS: [u8; 11] = [
+const ASKS_GETS: [u8; STATES] = [
     IS_AD, // I
     NONE, // S
     NONE, // M
@@ -86,7 +87,7 @@ const ASKS_GETS: [u8; 11] = [
     NONE, // II_A
 ];
 
-const ASKS_GETX: [u8; 11] = [
+const ASKS_GETX: [u8; STATES] = [
     IM_AD, // I
     SM_AD, // S
     NONE, // M
@@ -100,7 +101,7 @@ const ASKS_GETX: [u8; 11] = [
     NONE, // II_A
 ];
 
-const ASKS_PUTX: [u8; 11] = [
+const ASKS_PUTX: [u8; STATES] = [
     NONE, // I
     NONE, // S
     MI_A, // M
@@ -116,7 +117,7 @@ const ASKS_PUTX: [u8; 11] = [
 
 // The next state, where a seen request leads
 
-const SEES_GETS: [u8; 11] = [
+const SEES_GETS: [u8; STATES] = [
     NONE, // I
     NONE, // S
     S, // M
@@ -130,7 +131,7 @@ const SEES_GETS: [u8; 11] = [
     NONE, // II_A
 ];
 
-const SEES_GETX: [u8; 11] = [
+const SEES_GETX: [u8; STATES] = [
     NONE, // I
     I, // S
     I, // M
@@ -146,7 +147,7 @@ const SEES_GETX: [u8; 11] = [
 
 // States that the rules name
 
-const DROPS: [bool; 11] = [
+const DROPS: [bool; STATES] = [
     false, // I
     true, // S
     false, // M
@@ -160,7 +161,7 @@ const DROPS: [bool; 11] = [
     false, // II_A
 ];
 
-const WAITS: [bool; 11] = [
+const WAITS: [bool; STATES] = [
     false, // I
     false, // S
     false, // M
@@ -174,7 +175,7 @@ const WAITS: [bool; 11] = [
     false, // II_A
 ];
 
-const READS: [bool; 11] = [
+const READERS: [bool; STATES] = [
     false, // I
     true, // S
     false, // M
@@ -188,7 +189,7 @@ const READS: [bool; 11] = [
     false, // II_A
 ];
 
-const GIVES: [bool; 11] = [
+const CAN_GIVE: [bool; STATES] = [
     false, // I
     false, // S
     true, // M
@@ -202,7 +203,7 @@ const GIVES: [bool; 11] = [
     false, // II_A
 ];
 
-const FROM_GETS: [bool; 11] = [
+const FROM_GETS: [bool; STATES] = [
     false, // I
     false, // S
     false, // M
@@ -216,7 +217,7 @@ const FROM_GETS: [bool; 11] = [
     false, // II_A
 ];
 
-const FROM_GETX: [bool; 11] = [
+const FROM_GETX: [bool; STATES] = [
     false, // I
     false, // S
     false, // M
@@ -230,7 +231,7 @@ const FROM_GETX: [bool; 11] = [
     false, // II_A
 ];
 
-const FROM_PUTX: [bool; 11] = [
+const FROM_PUTX: [bool; STATES] = [
     false, // I
     false, // S
     false, // M
@@ -244,7 +245,7 @@ const FROM_PUTX: [bool; 11] = [
     true, // II_A
 ];
 
-const PUT_STANDS: [bool; 11] = [
+const PUT_STANDS: [bool; STATES] = [
     false, // I
     false, // S
     false, // M
@@ -258,7 +259,7 @@ const PUT_STANDS: [bool; 11] = [
     false, // II_A
 ];
 
-const GRANTED_TO: [u8; 11] = [
+const GRANTED_TO: [u8; STATES] = [
     NONE, // I
     NONE, // S
     NONE, // M
@@ -272,7 +273,7 @@ const GRANTED_TO: [u8; 11] = [
     NONE, // II_A
 ];
 
-const FILLED_TO: [u8; 11] = [
+const FILLED_TO: [u8; STATES] = [
     NONE, // I
     NONE, // S
     NONE, // M
@@ -287,25 +288,19 @@ const FILLED_TO: [u8; 11] = [
 ];
 
 // What a column of rights says of a state.
-fn right(column: &[bool; 11], state: u8) -> bool
+fn right(column: &[bool; STATES], state: u8) -> bool
     ensures { λ r. ⌜ r ≡ cond (ltb state states) (getD (now (column .entry)) state false) false ⌝ }
 {
-    if state < 11 {
-        column[state as usize]
-    } else {
-        false
-    }
+    let i = state as usize;
+    if i < STATES { column[i] } else { false }
 }
 
 // Where a column of moves leads from a state.
-fn place(column: &[u8; 11], state: u8) -> u8
+fn place(column: &[u8; STATES], state: u8) -> u8
     ensures { λ r. ⌜ r ≡ cond (ltb state states) (getD (now (column .entry)) state 0) none ⌝ }
 {
-    if state < 11 {
-        column[state as usize]
-    } else {
-        NONE
-    }
+    let i = state as usize;
+    if i < STATES { column[i] } else { NONE }
 }
 
 // Where a state goes that is to move: nowhere, at an empty place.
@@ -392,18 +387,18 @@ pub fn waits(state: u8) -> bool
     right(&WAITS, state)
 }
 
-// A reader: another's GETX moves it, granted or not.
-pub fn reads(state: u8) -> bool
-    ensures { λ r. ⌜ r ≡ reads state ⌝ }
+// The state of a reader, which another's GETX moves, granted or not.
+pub fn is_reader(state: u8) -> bool
+    ensures { λ r. ⌜ r ≡ isReader state ⌝ }
 {
-    right(&READS, state)
+    right(&READERS, state)
 }
 
 // An owner in this state can give its value away.
-pub fn gives(state: u8) -> bool
-    ensures { λ r. ⌜ r ≡ gives state ⌝ }
+pub fn can_give(state: u8) -> bool
+    ensures { λ r. ⌜ r ≡ canGive state ⌝ }
 {
-    right(&GIVES, state)
+    right(&CAN_GIVE, state)
 }
 
 // A request of this kind comes from this state.
