@@ -24,6 +24,7 @@ use Rattle.rules.specs.declared.kinds.Refusal.the-variants.{
   IllFormed,
 }
 
+-- the number of each refusal in the paper's list
 abbrev pub refusalNo : Refusal → ℕ
 refusalNo NoSuchCard = 1
 refusalNo NoSuchBlock = 2

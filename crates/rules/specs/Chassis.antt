@@ -26,6 +26,7 @@ pub record Chassis : Type 0 where
   pub pool : List Message
   pub last : OrderNo
 
+-- card k's cell for block b, and its state
 abbrev pub cellOf : Chassis → ℕ → ℕ → Cell
 cellOf c k b = c .block b .cell k
 
@@ -42,6 +43,7 @@ idle = record { state = I; value = 0; awaits = record { 0 = 0 } }
 abbrev pub freshBlock : Block
 freshBlock = record { memory = 0; owner = home; sharers = 0; cell = λ k. idle }
 
+-- a chassis of so many cards and blocks, just started
 abbrev pub fresh : ℕ → ℕ → Chassis
 fresh cards blocks = record {
   cards = cards;

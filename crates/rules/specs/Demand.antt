@@ -52,6 +52,7 @@ isDone (Refused r) = false
 unfoldable pub accepts : Chassis → Event → Bool
 accepts c e = isDone (step c e .answer)
 
+-- what the demand asks of a run
 pub record Coherent (r : Run) : Type 0 where
   -- "each accepted load returns the last earlier accepted store to its block that has not been struck by then, or 0"
   pub loads-last : LoadsLast (r .log)

@@ -70,6 +70,7 @@ rightReasons c k b right = noCard c k ∷ noBlock c b ∷ (NoRight if not (right
 unfoldable pub noMessage : Chassis → ℕ → Reason
 noMessage c i = NoSuchMessage if leb (length (c .pool)) i
 
+-- every event's refusals, in the paper's order; Order's are with Order
 unfoldable pub reasons : Chassis → Event → List Reason
 reasons c (Load k b) = rightReasons c k b loads
 reasons c (Store k b v) = rightReasons c k b stores
@@ -92,6 +93,7 @@ reasons c (Rejoin k) = noCard c k ∷ []
 
 -- Store
 
+-- a store leaves the state and the awaited number
 abbrev pub storing : ℕ → Cell → Cell
 storing v x = record { state = x .state; value = v; awaits = x .awaits }
 
@@ -154,6 +156,7 @@ rejoin c k = record {
 
 -- Every event
 
+-- what an event answers and leaves where nothing refuses it
 unfoldable pub effect : Chassis → Event → Result
 effect c (Load k b) = result (Done (cellOf c k b .value)) c
 effect c (Store k b v) = result (Done 0) (cellChanged c k b (storing v (cellOf c k b)))

@@ -36,6 +36,7 @@ pub data Did : Type 0 where
   -- nothing, or it was refused
   quiet : Did
 
+-- the block of the request at the head
 unfoldable pub headBlock : List Request → ℕ
 headBlock [] = 0
 headBlock (r ∷ rest) = r .block
@@ -51,6 +52,7 @@ didAccepted c (Deliver i) _ = quiet
 didAccepted c (Copy i) _ = quiet
 didAccepted c (Rejoin k) _ = rejoined k
 
+-- what an event did by its answer
 unfoldable pub did : Chassis → Event → Answer → Did
 did c e (Done v) = didAccepted c e v
 did c e (Refused r) = quiet
@@ -70,6 +72,7 @@ run c (e ∷ es) =
 
 -- The stores
 
+-- what became of a store: not settled yet, settled, or struck
 pub data Fate : Type 0 where
   unsettled settled struck : Fate
 
@@ -122,6 +125,7 @@ settle b w = cond (eqb (w .block) b) (withFate (meets settled (w .fate)) w) w
 unfoldable pub strike : ℕ → Written → Written
 strike k w = cond (eqb (w .card) k) (withFate (meets struck (w .fate)) w) w
 
+-- the store was struck
 unfoldable pub isStruck : Fate → Bool
 isStruck unsettled = false
 isStruck settled = false

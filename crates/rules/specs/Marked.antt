@@ -36,6 +36,7 @@ pub data Line : Type 0 where
 abbrev pub isIn : ℕ → ℕ → Line
 isIn k s = shows (λ c. eqb (stateOf c k 0) s)
 
+-- home's memory value
 abbrev pub memoryIs : ℕ → Line
 memoryIs v = shows (λ c. eqb (c .block 0 .memory) v)
 
@@ -43,6 +44,7 @@ memoryIs v = shows (λ c. eqb (c .block 0 .memory) v)
 abbrev pub head : Chassis → Request
 head c = getD (c .line) 0 (record { card = 0; block = 0; kind = 0; mask = 0; retry = record { 0 = 0 } })
 
+-- the head is from card k; it has this retry and this mask
 abbrev pub headIsFrom : ℕ → Line
 headIsFrom k = shows (λ c. eqb (head c .card) k)
 
@@ -175,6 +177,7 @@ m10 =
     Deliver 64 refused 11 ∷
     Deliver 63 gives 1 ∷ []
 
+-- M1 to M10
 unfoldable pub markedTable : List (List Line)
 unfolding m1 m2 m3 m4 m5 m6 m7 m8 m9 m10
 markedTable = m1 ∷ m2 ∷ m3 ∷ m4 ∷ m5 ∷ m6 ∷ m7 ∷ m8 ∷ m9 ∷ m10 ∷ []

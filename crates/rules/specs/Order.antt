@@ -240,6 +240,7 @@ again PutLapsed cards B r = []
 
 -- The whole
 
+-- the head r is taken, with what its turn does to block, line and pool, under the next order number
 unfoldable pub orderHead : Chassis → Request → List Request → Result
 orderHead c r rest =
     let B = c .block (r .block) in
@@ -248,6 +249,7 @@ orderHead c r rest =
     result (Done (outcomeNo t))
     (changed c (r .block) (ordered t B r n) (rest ++ again t (c .cards) B r) (c .pool ++ sent t B r n) n)
 
+-- an empty line is refused before this
 unfoldable pub order : Chassis → List Request → Result
 order c [] = result (Done 0) c
 order c (r ∷ rest) = orderHead c r rest

@@ -66,12 +66,14 @@ rows =
     row – – · · · · · ∷  -- 10 II_A
     []
 
+-- the row of a state; what is no state has an empty row
 unfoldable pub rowOf : ℕ → Row
 unfolding rows
 rowOf s = getD rows s (row – – · · · · ·)
 
 -- The columns
 
+-- the right to load; the right to store
 unfoldable pub loads : ℕ → Bool
 unfolding rowOf
 loads s = rowOf s .load
