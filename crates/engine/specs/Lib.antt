@@ -1,0 +1,5 @@
+-- The chassis as words, and what the engine promises of them.
+pub mod Layout
+pub mod Words
+pub mod Promise
+pub mod Parts

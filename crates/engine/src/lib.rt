@@ -1,0 +1,3 @@
+// The engine: the chassis as words that the caller lends, changed in place.
+pub mod layout;
+mod words;
