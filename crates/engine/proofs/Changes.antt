@@ -1,5 +1,5 @@
 -- What a store in the words of a chassis makes of the chassis.
-use Prim.Native.Nat.{ℕ, suc, _+_, _*_, _<_}
+use Prim.Native.Nat.{ℕ, suc, _+_, _-_, _*_, _≤_, _<_}
 use native.Mathlib.Nat.{add-zero}
 use native.Mathlib.Numerals.{add-one}
 use native.Mathlib.Omega.{arith}
@@ -13,7 +13,7 @@ use Rattle.rules.specs.declared.kinds.Cell.{Cell}
 use Rattle.rules.specs.declared.kinds.Request.{Request}
 use Rattle.rules.specs.declared.kinds.Message.{Message}
 use Rattle.engine.specs.Layout.{placeWords, lineAt, poolAt}
-use Rattle.engine.specs.Words.{requestRow, messageRow, words, noRequest, noMessage}
+use Rattle.engine.specs.Words.{requestRow, messageRow, words, waitingOf, pooledOf, noRequest, noMessage}
 use Rattle.engine.specs.Parts.{
   homeChanged,
   lineChanged,
@@ -37,7 +37,8 @@ use Rattle.engine.proofs.Image.{
   get-request,
   get-message,
 }
-use Rattle.engine.proofs.Places.{pushed, left}
+use Rattle.engine.proofs.View.{waiting-of, pooled-of}
+use Rattle.engine.proofs.Closing.{pushed, left}
 
 module _ (c : Chassis) (w : List ℕ) (e : w ≡ words c) where
   at-image : w ≡ image (plain c)
@@ -126,27 +127,40 @@ module _ (c : Chassis) (w : List ℕ) (e : w ≡ words c) where
   at : w ≡ image (plain c)
   at = e ∙ words-image c
 
-  pub push-request : (r : Request) (w₁ w₂ : List ℕ) → length (c .line) < room → w₁ ≡ putRequest w (length (c .line)) r
-      → w₂ ≡ set w₁ 2 (length (c .line) + 1) → w₂ ≡ words (lineChanged c (c .line ++ r ∷ []))
-  push-request r w₁ w₂ h e₁ e₂ =
-      pushed noRequest (lineWords c) 2 lineAt putRequest (line-store c) (line-count c) (c .line) r w w₁ w₂ h at e₁ e₂
+  -- one more at the tail, where n are there
+  pub push-request : (r : Request) (n : ℕ) (w₁ w₂ : List ℕ) → n ≡ waitingOf w → n < room → w₁ ≡ putRequest w n r → w₂ ≡ set w₁ 2 (n + 1)
+      → w₂ ≡ words (lineChanged c (c .line ++ r ∷ []))
+  push-request r n w₁ w₂ en h e₁ e₂ =
+      let is : n ≡ length (c .line) = en ∙ waiting-of c w e in
+      pushed noRequest (lineWords c) 2 lineAt putRequest (line-store c) (line-count c) (c .line) r w w₁ w₂ (rw (← is) h) at
+      (e₁ ∙ ap (λ k. putRequest w k r) is) (e₂ ∙ ap (λ k. set w₁ 2 (k + 1)) is)
       ∙ sym (words-image (lineChanged c (c .line ++ r ∷ [])))
 
-  pub push-message : (m : Message) (w₁ w₂ : List ℕ) → length (c .pool) < room → w₁ ≡ putMessage w (length (c .pool)) m
-      → w₂ ≡ set w₁ 3 (length (c .pool) + 1) → w₂ ≡ words (poolChanged c (c .pool ++ m ∷ []))
-  push-message m w₁ w₂ h e₁ e₂ =
-      pushed noMessage (poolWords c) 3 poolAt putMessage (pool-store c) (pool-count c) (c .pool) m w w₁ w₂ h at e₁ e₂
+  pub push-message : (m : Message) (n : ℕ) (w₁ w₂ : List ℕ) → n ≡ pooledOf w → n < room → w₁ ≡ putMessage w n m → w₂ ≡ set w₁ 3 (n + 1)
+      → w₂ ≡ words (poolChanged c (c .pool ++ m ∷ []))
+  push-message m n w₁ w₂ en h e₁ e₂ =
+      let is : n ≡ length (c .pool) = en ∙ pooled-of c w e in
+      pushed noMessage (poolWords c) 3 poolAt putMessage (pool-store c) (pool-count c) (c .pool) m w w₁ w₂ (rw (← is) h) at
+      (e₁ ∙ ap (λ k. putMessage w k m) is) (e₂ ∙ ap (λ k. set w₁ 3 (k + 1)) is)
       ∙ sym (words-image (poolChanged c (c .pool ++ m ∷ [])))
 
-  -- item a leaves, t later ones close up, and the last place is cleared
-  pub remove-request : (a t : ℕ) (w₁ w₂ w₃ : List ℕ) → length (c .line) ≡ suc (a + t) → a + t < room → w₁ ≡ closing w lineAt a t
-      → w₂ ≡ putRequest w₁ (a + t) noRequest → w₃ ≡ set w₂ 2 (a + t) → w₃ ≡ words (lineChanged c (removed a (c .line)))
-  remove-request a t w₁ w₂ w₃ h k e₁ e₂ e₃ =
-      left noRequest (lineWords c) 2 lineAt putRequest (line-store c) (line-count c) (line-copy c) (c .line) a t w w₁ w₂ w₃ h k at e₁ e₂ e₃
+  -- item a leaves, the later ones close up to the last place, z, and that is cleared
+  pub remove-request : (a z : ℕ) (w₁ w₂ w₃ : List ℕ) → z + 1 ≡ waitingOf w → a ≤ z → z < room → w₁ ≡ closing w lineAt a (z - a)
+      → w₂ ≡ putRequest w₁ z noRequest → w₃ ≡ set w₂ 2 z → w₃ ≡ words (lineChanged c (removed a (c .line)))
+  remove-request a z w₁ w₂ w₃ ez h k e₁ e₂ e₃ =
+      let t = z - a in
+      let is : z ≡ a + t = omega arith in
+      let long : length (c .line) ≡ suc (a + t) = omega (arith, waiting-of c w e) in
+      left noRequest (lineWords c) 2 lineAt putRequest (line-store c) (line-count c) (line-copy c) (c .line) a t w w₁ w₂ w₃ long
+      (omega arith) at e₁ (e₂ ∙ ap (λ q. putRequest w₁ q noRequest) is) (e₃ ∙ ap (set w₂ 2) is)
       ∙ sym (words-image (lineChanged c (removed a (c .line))))
 
-  pub remove-message : (a t : ℕ) (w₁ w₂ w₃ : List ℕ) → length (c .pool) ≡ suc (a + t) → a + t < room → w₁ ≡ closing w poolAt a t
-      → w₂ ≡ putMessage w₁ (a + t) noMessage → w₃ ≡ set w₂ 3 (a + t) → w₃ ≡ words (poolChanged c (removed a (c .pool)))
-  remove-message a t w₁ w₂ w₃ h k e₁ e₂ e₃ =
-      left noMessage (poolWords c) 3 poolAt putMessage (pool-store c) (pool-count c) (pool-copy c) (c .pool) a t w w₁ w₂ w₃ h k at e₁ e₂ e₃
+  pub remove-message : (a z : ℕ) (w₁ w₂ w₃ : List ℕ) → z + 1 ≡ pooledOf w → a ≤ z → z < room → w₁ ≡ closing w poolAt a (z - a)
+      → w₂ ≡ putMessage w₁ z noMessage → w₃ ≡ set w₂ 3 z → w₃ ≡ words (poolChanged c (removed a (c .pool)))
+  remove-message a z w₁ w₂ w₃ ez h k e₁ e₂ e₃ =
+      let t = z - a in
+      let is : z ≡ a + t = omega arith in
+      let long : length (c .pool) ≡ suc (a + t) = omega (arith, pooled-of c w e) in
+      left noMessage (poolWords c) 3 poolAt putMessage (pool-store c) (pool-count c) (pool-copy c) (c .pool) a t w w₁ w₂ w₃ long
+      (omega arith) at e₁ (e₂ ∙ ap (λ q. putMessage w₁ q noMessage) is) (e₃ ∙ ap (set w₂ 3) is)
       ∙ sym (words-image (poolChanged c (removed a (c .pool))))

@@ -2,5 +2,8 @@
 pub mod Rows
 pub mod Image
 pub mod View
-pub mod Places
+pub mod Closing
 pub mod Changes
+pub mod Does
+pub mod Rights
+pub mod Keeps

@@ -3,3 +3,4 @@ pub mod Layout
 pub mod Words
 pub mod Promise
 pub mod Parts
+pub mod Found

@@ -1,6 +1,6 @@
 -- The places of the line or of the pool: one more at the tail, and one that leaves while the later ones close up.
 -- What holds of both is stated once, over the kind of item and over the words as a function of the count and the places.
-use Prim.Native.Nat.{ℕ, zero, suc, _+_, _≤_, _<_}
+use Prim.Native.Nat.{ℕ, zero, suc, _+_, _-_, _≤_, _<_}
 use native.Mathlib.Numerals.{add-one}
 use native.Mathlib.Omega.{arith}
 use mathlib.Core.List.{List, [], _∷_, _++_}
@@ -134,3 +134,16 @@ module _ {A : Type 0} (d : A) (words : ℕ → (ℕ → A) → List ℕ) (header
         e₃ ∙ ap (λ v. set v header (a + t)) clear ∙ count-law n (a + t) (replace (closed f a t) (a + t) d)
         ∙ ap (words (a + t)) (closed-removed d l a t h)
         ∙ ap (λ q. words q (places d (removed a l))) (sym (length-removed l a t h))
+
+-- Closing up step by step, as the code counts
+
+pub closing-step : (w w′ : List ℕ) (base i z : ℕ) (d : List ℕ) → i < z → w′ ≡ copied w base i → closing w base i (z - i) ≡ d
+    → closing w′ base (i + 1) (z - (i + 1)) ≡ d
+unfolding closing
+closing-step w w′ base i z d h e k =
+    let n : z - i ≡ suc (z - (i + 1)) = omega arith in
+    ap (λ l. closing l base (i + 1) (z - (i + 1))) e ∙ ap (closing w base i) (sym n) ∙ k
+
+pub closing-none : (w : List ℕ) (base i z : ℕ) → z ≤ i → closing w base i (z - i) ≡ w
+unfolding closing
+closing-none w base i z h = let e : z - i ≡ 0 = omega arith in ap (closing w base i) e

@@ -1,0 +1,108 @@
+// Load, Store and Drop, on words that are formed: a card's own cell, by the right that its state gives.
+use crate::layout::WORDS;
+use crate::words::blocks;
+use crate::words::cards;
+use crate::words::cell_at;
+use crate::words::put_cell;
+use rules::kinds::Answer;
+use rules::kinds::Cell;
+use rules::kinds::OrderNo;
+use rules::kinds::Refusal;
+use rules::numbers::I;
+use rules::table;
+ghost use mathlib.Core.Path.{_≡_};
+ghost use mathlib.Core.Bool.{true};
+ghost use Rattle.rules.specs.declared.kinds.Event.the-variants.{Load, Store, Drop};
+ghost use Rattle.engine.specs.Words.{formed};
+ghost use Rattle.engine.specs.Parts.{Does};
+ghost use Rattle.engine.specs.Found.{found};
+
+// A card's cell for a block, or why there is none.
+pub(crate) enum Found {
+    There(Cell),
+    Missing(Refusal),
+}
+
+// The cell that an event names: refusals 1 and 2, in this order.
+pub(crate) fn find(s: &[u64; WORDS], card: u8, block: u8) -> Found
+    requires { ⌜ formed (now s) ≡ true ⌝ }
+    ensures { λ r. ⌜ r ≡ found (now (s .entry)) card block ⌝ }
+{
+    if cards(s) <= (card as u64) {
+        return Found::Missing(Refusal::NoSuchCard);
+    }
+    if blocks(s) <= (block as u64) {
+        return Found::Missing(Refusal::NoSuchBlock);
+    }
+    Found::There(cell_at(s, card, block))
+}
+
+pub(crate) fn load(s: &[u64; WORDS], card: u8, block: u8) -> Answer
+    requires { ⌜ formed (now s) ≡ true ⌝ }
+    ensures { λ r. ⌜ Does (now (s .entry)) (Load card block) r (now (s .entry)) ⌝ }
+{
+    match find(s, card, block) {
+        Found::Missing(refusal) => Answer::Refused(refusal),
+        Found::There(cell) => {
+            let state = cell.state;
+            if table::loads(state) {
+                Answer::Done(cell.value)
+            } else {
+                Answer::Refused(Refusal::NoRight)
+            }
+        }
+    }
+}
+
+pub(crate) fn store(s: &mut [u64; WORDS], card: u8, block: u8, value: u32) -> Answer
+    requires { ⌜ formed (now s) ≡ true ⌝ }
+    ensures { λ r. ⌜ Does (now (s .entry)) (Store card block value) r (now (s .exit)) ⌝ }
+{
+    match find(s, card, block) {
+        Found::Missing(refusal) => Answer::Refused(refusal),
+        Found::There(cell) => {
+            let state = cell.state;
+            if !table::stores(state) {
+                return Answer::Refused(Refusal::NoRight);
+            }
+            let awaits = cell.awaits;
+            put_cell(
+                s,
+                card,
+                block,
+                Cell {
+                    state,
+                    value,
+                    awaits,
+                },
+            );
+            Answer::Done(0)
+        }
+    }
+}
+
+pub(crate) fn drop(s: &mut [u64; WORDS], card: u8, block: u8) -> Answer
+    requires { ⌜ formed (now s) ≡ true ⌝ }
+    ensures { λ r. ⌜ Does (now (s .entry)) (Drop card block) r (now (s .exit)) ⌝ }
+{
+    match find(s, card, block) {
+        Found::Missing(refusal) => Answer::Refused(refusal),
+        Found::There(cell) => {
+            let state = cell.state;
+            if !table::drops(state) {
+                return Answer::Refused(Refusal::NoRight);
+            }
+            put_cell(
+                s,
+                card,
+                block,
+                Cell {
+                    state: I,
+                    value: 0,
+                    awaits: OrderNo(0),
+                },
+            );
+            Answer::Done(0)
+        }
+    }
+}
