@@ -6,4 +6,5 @@ pub mod Closing
 pub mod Changes
 pub mod Does
 pub mod Rights
+pub mod Asked
 pub mod Keeps

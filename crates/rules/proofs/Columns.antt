@@ -25,11 +25,15 @@ module _ {A : Type 0} where
   at-from (suc n) i f d zero l = ap f (sym (add-zero i))
   at-from (suc n) i f d (suc s) l = at-from n (suc i) f d s (omega arith) ∙ ap f (suc-add i s ∙ sym (add-suc i s))
 
+  -- an array of n entries that is f at every place
+  pub array-at : (n : ℕ) (xs : List A) (f : ℕ → A) (d : A) → xs ≡ from n 0 f → (s : ℕ) → s < n → getD xs s d ≡ f s
+  array-at n xs f d e s l = ap (λ l. getD l s d) e ∙ at-from n 0 f d s l ∙ ap f (zero-add s)
+
   -- an array that is f at every state, where f is d beyond them; o is what a place past the array's end would read as
   pub column : (xs : List A) (f : ℕ → A) (o d : A) → xs ≡ from states 0 f → ((s : ℕ) → states ≤ s → f s ≡ d)
       → (s : ℕ) → cond (ltb s states) (getD xs s o) d ≡ f s
   column xs f o d e beyond s = test (ltb s states)
-      (λ p. rw p (ap (λ l. getD l s o) e ∙ at-from states 0 f o s (ltb-true s states p) ∙ ap f (zero-add s)))
+      (λ p. rw p (array-at states xs f o e s (ltb-true s states p)))
       (λ p. rw p (sym (beyond s (ltb-false s states p))))
 
 -- beyond the last state a row is empty, and a state is none that the rules name

@@ -1,0 +1,84 @@
+-- `ask::ask_from` ends in one of the ways of an ask.
+use borrow.Author.Needs.{needs}
+use native.Mathlib.Omega.{arith}
+use mathlib.Core.Path.{refl, sym, _∙_, ap}
+use Rattle.rules.specs.Masks.{every}
+use Rattle.rules.specs.Chassis.{goes}
+use Rattle.engine.specs.Parts.{putCell}
+use Rattle.engine.proofs.Does.{sizes}
+use Rattle.engine.proofs.Rights.{known}
+use Rattle.engine.proofs.Asked.{kind-test, cell-waiting, bad-kind, stranger, not-allowed, line-full, ask-done}
+use Rattle.engine.proofs.ask.ask_from.Statement.{statement}
+use Rattle.engine.proofs.ask.ask_from.Tie as tie
+
+returns : tie.Need-returns
+returns c = bad-kind _ (c .before .pre .0) _ _ _ _ _ (c .before .pre .1) (sym (kind-test (c .before .args .kind)) ∙ c .if1 .taken)
+
+cards-requires : tie.Need-cards-requires
+cards-requires c κs = search needs
+
+every-requires : tie.Need-every-requires
+every-requires c κs = omega (arith, sizes _ (c .before .before .before .pre .0))
+
+returns-2 : tie.Need-returns-2
+returns-2 c =
+    let p = c .before .before .before .before .before .pre in
+    let e = c .before .every .ensures ∙ ap every (c .before .before .cards .ensures) in
+    stranger _ (p .0) _ _ _ _ _ (p .1) (sym (kind-test (c .before .before .before .before .before .args .kind)) ∙ c .before .before .before .before .if1 .left) (let h = c .if2 .taken in omega arith)
+
+asked-requires : tie.Need-asked-requires
+asked-requires c κs = search needs
+
+returns-3 : tie.Need-returns-3
+returns-3 c =
+    let p = c .before .before .before .before .before .before .before .pre in
+    not-allowed _ (p .0) _ _ _ _ _ (p .1) (sym (kind-test (c .before .before .before .before .before .before .before .args .kind)) ∙ c .before .before .before .before .before .before .if1 .left)
+    (let e = c .before .before .before .every .ensures ∙ ap every (c .before .before .before .before .cards .ensures) in let h = c .before .before .if2 .left in omega arith)
+    (sym (c .before .asked .ensures) ∙ c .if3 .taken)
+
+waiting-requires : tie.Need-waiting-requires
+waiting-requires c κs = search needs
+
+returns-4 : tie.Need-returns-4
+returns-4 c =
+    let p = c .before .before .before .before .before .before .before .before .before .before .pre in
+    line-full _ (p .0) _ _ _ _ _ (p .1) (sym (kind-test (c .before .before .before .before .before .before .before .before .before .before .args .kind)) ∙ c .before .before .before .before .before .before .before .before .before .if1 .left)
+    (let e = c .before .before .before .before .before .before .every .ensures ∙ ap every (c .before .before .before .before .before .before .before .cards .ensures) in let h = c .before .before .before .before .before .if2 .left in omega arith)
+    (λ e. c .before .before .before .if3 .left (c .before .before .before .before .asked .ensures ∙ e)) (omega arith)
+
+goes-for-requires : tie.Need-goes-for-requires
+goes-for-requires c κs = search needs
+
+put-cell-requires : tie.Need-put-cell-requires
+put-cell-requires c κs = let t = known _ (c .before .before .before .before .before .before .before .before .before .before .before .before .pre .0) _ _ _ (c .before .before .before .before .before .before .before .before .before .before .before .before .pre .1) in (t .card<, t .block<)
+
+push-request-requires : tie.Need-push-request-requires
+push-request-requires c κs =
+    let same = cell-waiting _ (c .before .before .before .before .before .before .before .before .before .before .before .before .before .before .pre .0) _ _ _ _ (c .before .before .before .before .before .before .before .before .before .before .before .before .before .before .pre .1) _ (c .before .put-cell .ensures) in omega arith
+
+returns-5 : tie.Need-returns-5
+returns-5 c =
+    let p = c .before .before .before .before .before .before .before .before .before .before .before .before .before .before .before .pre in
+    let a = c .before .before .before .before .before .before .before .before .before .before .before .before .before .before .before .args in
+    ask-done _ (p .0) _ _ _ _ _ (p .1) (sym (kind-test (c .before .before .before .before .before .before .before .before .before .before .before .before .before .before .before .args .kind)) ∙ c .before .before .before .before .before .before .before .before .before .before .before .before .before .before .if1 .left)
+    (let e = c .before .before .before .before .before .before .before .before .before .before .before .every .ensures ∙ ap every (c .before .before .before .before .before .before .before .before .before .before .before .before .cards .ensures) in let h = c .before .before .before .before .before .before .before .before .before .before .if2 .left in omega arith)
+    (λ e. c .before .before .before .before .before .before .before .before .if3 .left (c .before .before .before .before .before .before .before .before .before .asked .ensures ∙ e)) (omega arith) _ _
+    (c .before .before .put-cell .ensures ∙ ap (putCell (a .s .now) (a .card) (a .block))
+    (c .before .before .before .goes-for .ensures ∙ ap (λ s. goes s (a .cell)) (c .before .before .before .before .before .before .before .before .before .asked .ensures))) (c .push-request .ensures)
+
+pub ask-from-spec : {M : Type 1} → statement M
+ask-from-spec =
+    tie.close
+    (tie.spec
+    returns
+    cards-requires
+    every-requires
+    returns-2
+    asked-requires
+    returns-3
+    waiting-requires
+    returns-4
+    goes-for-requires
+    put-cell-requires
+    push-request-requires
+    returns-5)
