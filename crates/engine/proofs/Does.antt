@@ -74,6 +74,10 @@ module _ (w : List ℕ) (f : formed w ≡ true) where
   unfolding act
   done e r w′ h a b = ends e (effect (view w) e) r w′ (accepts (view w) (reasons (view w) e) (effect (view w) e) h) a b
 
+-- what is done for an event, once it is known which one
+pub does-for : (w : List ℕ) (e e′ : Event) (r : Answer) (w′ : List ℕ) → e ≡ e′ → Does w e′ r w′ → Does w e r w′
+does-for w e e′ r w′ h d = rw h d
+
 -- The promise
 
 -- on a well formed chassis the rules' step is what is done without the test of 15

@@ -255,9 +255,9 @@ goes-low : (n s : ℕ) (x : Cell) → LowCell x → LowCell (goesFor n s x)
 goes-low n s x h = cond-cases Low (loads s) (x .value) 0 (λ _. h) (λ _. omega arith)
 
 -- a cell that a request moves: its value stays low, and where no card is it stays idle
-record Moves (x y : Cell) : Type 0 where
+pub record Moves (x y : Cell) : Type 0 where
   low : LowCell x → LowCell y
-  idles : x ≡ idle → y ≡ idle
+  pub idles : x ≡ idle → y ≡ idle
 
 stays : (x : Cell) → Moves x x
 stays x = record { low = λ h. h; idles = λ e. e }
@@ -282,7 +282,7 @@ asker-low GetxMissed n x h = h
 asker-low PutTaken n x h = omega arith
 asker-low PutLapsed n x h = omega arith
 
-owner-moves : (t : Turn) (x : Cell) → Moves x (ownerSees t x)
+pub owner-moves : (t : Turn) (x : Cell) → Moves x (ownerSees t x)
 unfolding ownerSees
 owner-moves GetsGranted x = moves seesGets x gets-idle
 owner-moves GetxGranted x = moves seesGetx x getx-idle
@@ -291,7 +291,7 @@ owner-moves GetxMissed x = stays x
 owner-moves PutTaken x = stays x
 owner-moves PutLapsed x = stays x
 
-reader-moves : (t : Turn) (x : Cell) → Moves x (readerSees t x)
+pub reader-moves : (t : Turn) (x : Cell) → Moves x (readerSees t x)
 unfolding readerSees
 reader-moves GetsGranted x = stays x
 reader-moves GetxGranted x = reads x
@@ -339,7 +339,7 @@ cell-within {memory} {cell} k x v i h = record {
 }
 
 -- a card that rejoins leaves a fresh block as it is
-rejoin-fresh : (k : ℕ) → rejoinBlock k freshBlock ≡ freshBlock
+pub rejoin-fresh : (k : ℕ) → rejoinBlock k freshBlock ≡ freshBlock
 unfolding rejoinBlock without
 rejoin-fresh k =
     let o : cond (eqb home k) home home ≡ home = cond-cases (λ y. y ≡ home) (eqb home k) home home (λ _. refl) (λ _. refl) in

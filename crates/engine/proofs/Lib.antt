@@ -1,10 +1,20 @@
--- The proofs: laws of rows and words from the bottom up.
+-- The proofs: laws of rows and words from the bottom up, then each event's ways to end.
 pub mod Rows
 pub mod Image
 pub mod View
 pub mod Closing
 pub mod Changes
+pub mod Checks
+pub mod Same
+pub mod Tested
 pub mod Does
+pub mod Keeps
 pub mod Rights
 pub mod Asked
-pub mod Keeps
+pub mod Pooled
+pub mod Rejoined
+pub mod Judging
+pub mod Seeing
+pub mod Turned
+pub mod Ordered
+pub mod Started

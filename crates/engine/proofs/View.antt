@@ -39,6 +39,7 @@ use Rattle.engine.specs.Words.{
   same,
   formed,
 }
+use Rattle.engine.specs.Parts.{CellFits}
 use Rattle.engine.proofs.Image.{plain, image, get-home, get-cell, get-request, get-message}
 
 -- What formed words are
@@ -129,10 +130,6 @@ module _ (c : Chassis) (w : List ℕ) (e : w ≡ words c) where
 
 -- The words of a chassis say that chassis, where its numbers fit their fields and it is as Start makes it beyond the room there is
 
-pub record CellFits (x : Cell) : Type 0 where
-  pub state : x .state < 2 ^ 8
-  pub value : x .value < 2 ^ 32
-
 pub record BlockFits (B : Block) : Type 0 where
   pub memory : B .memory < 2 ^ 32
   pub owner : B .owner < 2 ^ 8
@@ -177,7 +174,7 @@ module _ (c : Chassis) where
   abbrev w : List ℕ
   w = image (plain c)
 
-  cell-again : (k b : ℕ) → k < mostCards → b < mostBlocks → CellFits (cellOf c k b) → cellAt w k b ≡ cellOf c k b
+  pub cell-again : (k b : ℕ) → k < mostCards → b < mostBlocks → CellFits (cellOf c k b) → cellAt w k b ≡ cellOf c k b
   cell-again k b hk hb f =
       let at : (r : ℕ) → r < 3 → getD w (cellPlace k b + r) 0 ≡ getD (cellRow (cellOf c k b)) r 0 = λ r. get-cell (plain c) k b r hk hb in
       rw (

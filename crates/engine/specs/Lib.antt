@@ -4,3 +4,6 @@ pub mod Words
 pub mod Promise
 pub mod Parts
 pub mod Found
+pub mod Leaving
+pub mod Tested
+pub mod Ordering

@@ -1,5 +1,5 @@
 -- What the engine's inner functions do. No public promise cites this.
-use Prim.Native.Nat.{ℕ, zero, suc, _+_, _*_}
+use Prim.Native.Nat.{ℕ, zero, suc, _+_, _*_, _^_, _<_}
 use mathlib.Core.List.{List}
 use mathlib.Core.Path.{_≡_}
 use lib.ListN.{getD, set}
@@ -59,6 +59,11 @@ lastChanged c n = record {
   pool = c .pool;
   last = record { 0 = n };
 }
+
+-- the numbers of a cell fit their words' fields
+pub record CellFits (x : Cell) : Type 0 where
+  pub state : x .state < 2 ^ 8
+  pub value : x .value < 2 ^ 32
 
 -- Stores of an item's words
 

@@ -87,7 +87,8 @@ pub(crate) fn cell_at(s: &[u64; WORDS], card: u8, block: u8) -> Cell
 
 pub(crate) fn home_at(s: &[u64; WORDS], block: u8) -> Home
     requires { ⌜ block < mostBlocks ⌝ }
-    ensures { λ r. ⌜ (r .memory ≡ memoryAt (now (s .entry)) block) × (r .owner ≡ ownerAt (now (s .entry)) block) × (r .sharers ≡ sharersAt (now (s .entry)) block) ⌝ }
+    ensures { λ r. ⌜ (r .memory ≡ memoryAt (now (s .entry)) block) × (r .owner ≡ ownerAt (now (s .entry)) block)
+        × (r .sharers ≡ sharersAt (now (s .entry)) block) ⌝ }
 {
     let p = HEAD + BLOCK_WORDS * (block as usize);
     Home {
@@ -123,6 +124,18 @@ pub(crate) fn message_at(s: &[u64; WORDS], place: usize) -> Message
         value: (s[p + 3] % 4294967296) as u32,
         number: OrderNo(s[p + 4]),
     }
+}
+
+pub(crate) fn set_cards(s: &mut [u64; WORDS], n: u64)
+    ensures { λ _. ⌜ now (s .exit) ≡ set (now (s .entry)) 0 n ⌝ }
+{
+    s[CARDS_AT] = n;
+}
+
+pub(crate) fn set_blocks(s: &mut [u64; WORDS], n: u64)
+    ensures { λ _. ⌜ now (s .exit) ≡ set (now (s .entry)) 1 n ⌝ }
+{
+    s[BLOCKS_AT] = n;
 }
 
 pub(crate) fn set_waiting(s: &mut [u64; WORDS], n: u64)

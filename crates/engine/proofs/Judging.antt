@@ -1,0 +1,225 @@
+-- What is decided of the head request: the tests that walk the cards, and each way that the decision ends.
+use Prim.Native.Nat.{ℕ, suc, _+_, _≤_, _<_}
+use native.Mathlib.Numerals.{add-one}
+use native.Mathlib.Omega.{arith}
+use mathlib.Core.Bool.{Bool, true, false, cond, not, _&&_, _||_}
+use mathlib.Core.List.{List, [], _∷_}
+use mathlib.Core.Path.{_≡_, refl, sym, _∙_, ap}
+use mathlib.Core.Logic.{_≢_}
+use lib.Dec.{eqb, leb}
+use borrow.Author.Tests.{ne-eqb, ltb-true, eq-eqb, lt-ltb, le-leb, lt-leb}
+use Rattle.rules.specs.Tests.{_⇒_, any, all, some}
+use Rattle.rules.specs.Masks.{has}
+use Rattle.rules.specs.Numbers.{mostCards, mostBlocks, home, room, lastNumber, gets, putx}
+use Rattle.rules.specs.Table.{canGive, comesFrom, putStands}
+use Rattle.rules.specs.Chassis.{Block, idle, cellOf}
+use Rattle.rules.specs.Formed.{homeOrCard, okRequest}
+use Rattle.rules.specs.Order.{held, impossible, noRoomFor, suffices, turn}
+use Rattle.rules.specs.declared.kinds.Request.{Request}
+use Rattle.engine.specs.declared.words.Home.{Home}
+use lib.ListN.{getD}
+use Rattle.rules.specs.declared.kinds.Cell.{Cell}
+use Rattle.rules.specs.declared.kinds.Turn.{Turn}
+use Rattle.rules.specs.declared.kinds.Refusal.the-variants.{BlockHeld, PoolFull, NumbersSpent, Impossible}
+use Rattle.engine.specs.declared.judge.Judged.{Judged}
+use Rattle.engine.specs.declared.judge.Judged.the-variants.{No, Yes}
+use Rattle.rules.specs.declared.kinds.Turn.the-variants.{GetsGranted, GetxGranted, GetsMissed, GetxMissed, PutTaken, PutLapsed}
+use Rattle.rules.proofs.Tests.{or-i}
+use Rattle.rules.proofs.Lists.{All-at}
+use Rattle.rules.proofs.Formed.{RequestWf, request→, BlockWf}
+use Rattle.engine.proofs.Does.{wf, sizes}
+use Rattle.engine.specs.Words.{view, blockOf, cardsOf, waitingOf, pooledOf, lastOf, noRequest, cellAt, requestAt, memoryAt, ownerAt, sharersAt, formed}
+use Rattle.engine.specs.Ordering.{HomeIs, sharersNamed, judgedFree, judged}
+use Rattle.engine.proofs.View.{view-block, view-cell, view-request, waiting-is, pooled-is}
+
+-- Tests over the numbers below a bound, one more at a time
+
+pub some-none : (f : ℕ → Bool) → false ≡ some 0 f
+unfolding some
+some-none f = refl
+
+pub some-more : (f : ℕ → Bool) (i : ℕ) (found r : Bool) → found ≡ some i f → r ≡ f i → (found || r) ≡ some (i + 1) f
+unfolding some
+some-more f i found r e h = rw (add-one, e, h) (swap (some i f) (f i))
+  where
+    swap : (a b : Bool) → (a || b) ≡ cond b true a
+    swap true true = refl
+    swap true false = refl
+    swap false true = refl
+    swap false false = refl
+
+pub some-done : (f : ℕ → Bool) (i : ℕ) (found : Bool) → found ≡ some i f → (n : ℕ) → i ≡ n → found ≡ some n f
+some-done f i found e n h = rw (← h) e
+
+-- the code's test of one sharer
+pub named-test : (a a′ b c c′ : Bool) → a ≡ a′ → c ≡ c′ → (not a || b || c) ≡ (a′ ⇒ b || c′)
+named-test a a′ b c c′ e f = rw (e, f) (go a′)
+  where
+    go : (t : Bool) → (not t || b || c′) ≡ (t ⇒ b || c′)
+    go true = refl
+    go false = refl
+
+-- The owner
+
+-- an owner that is not home is a card
+pub owner-card : (owner : ℕ) → owner ≢ home → homeOrCard mostCards owner ≡ true → owner < mostCards
+unfolding homeOrCard
+owner-card owner n h = ltb-true owner mostCards (rw (ne-eqb owner home n) at h)
+
+-- at home's number a chassis that words say has an idle cell
+pub home-cell : (w : List ℕ) (b owner : ℕ) → owner ≡ home → b < mostBlocks → idle ≡ view w .block b .cell owner
+home-cell w b owner e h = ap (λ k. blockOf w b .cell k) (sym e) ∙ sym (ap (λ (B : Block). B .cell owner) (view-block w b h))
+
+-- The mask test
+
+module _ (cards : ℕ) (h : Home) (r : Request) (B : Block) (is : HomeIs B h) (named : Bool)
+    (e : named ≡ (eqb (h .owner) home || has (r .mask) (h .owner))) where
+  owner-named : (eqb (B .owner) home || has (r .mask) (B .owner)) ≡ named
+  owner-named = ap (λ o. eqb o home || has (r .mask) o) (is .owner) ∙ sym e
+
+  pub owner-missed : named ≡ false → false ≡ suffices cards B r
+  unfolding suffices
+  owner-missed n = rw (owner-named, n)
+
+  pub gets-suffices : named ≡ true → r .kind ≡ gets → true ≡ suffices cards B r
+  unfolding suffices
+  gets-suffices n g = rw (owner-named, n, eq-eqb (r .kind) gets g)
+
+  pub getx-suffices : named ≡ true → r .kind ≢ gets → (t : Bool) → t ≡ sharersNamed cards (h .sharers) r → t ≡ suffices cards B r
+  unfolding suffices sharersNamed
+  getx-suffices n g t k = rw (owner-named, n, ne-eqb (r .kind) gets g)
+      (k ∙ ap (λ s. all cards (λ k. has s k ⇒ eqb k (r .card) || has (r .mask) k)) (sym (is .sharers)))
+
+-- Impossible
+
+or-any : (a b c d e : Bool) → (a || b || c || d || e) ≡ any (a ∷ b ∷ c ∷ d ∷ e ∷ [])
+unfolding any
+or-any true b c d e = refl
+or-any false true c d e = refl
+or-any false false true d e = refl
+or-any false false false true e = refl
+or-any false false false false true = refl
+or-any false false false false false = refl
+
+-- the code's test, from what it read
+pub impossible-test : (h : Home) (asker owner : ℕ) (r : Request) (stands from can : Bool) → stands ≡ putStands asker
+    → from ≡ comesFrom (r .kind) asker → can ≡ canGive owner
+    → (B : Block) → HomeIs B h → B .cell (r .card) .state ≡ asker → B .cell (B .owner) .state ≡ owner
+    → (not from || not (eqb (r .kind) putx) && eqb (h .owner) (r .card)
+    || not (eqb (r .kind) putx) && not (eqb (h .owner) home) && not can
+    || eqb (r .kind) putx && stands && not (eqb (h .owner) (r .card))
+    || eqb (r .kind) putx && not stands && eqb (h .owner) (r .card)) ≡ impossible B r
+unfolding impossible
+impossible-test h asker owner r stands from can e₁ e₂ e₃ B is ea eo =
+    rw (e₁, e₂, e₃, ← is .owner, ← ea, ← eo) (or-any _ _ _ _ _)
+
+-- The turn
+
+module _ (cards asker : ℕ) (r : Request) (B : Block) (a : B .cell (r .card) .state ≡ asker) where
+  pub put-turn : r .kind ≡ putx → (stands : Bool) → putStands asker ≡ stands → cond stands PutTaken PutLapsed ≡ turn cards B r
+  unfolding turn
+  put-turn e stands h = rw (eq-eqb (r .kind) putx e, a, h)
+
+  pub get-turn : r .kind ≢ putx → (enough is-gets : Bool) → enough ≡ suffices cards B r → is-gets ≡ eqb (r .kind) gets
+      → cond enough (cond is-gets GetsGranted GetxGranted) (cond is-gets GetsMissed GetxMissed) ≡ turn cards B r
+  unfolding turn
+  get-turn n enough is-gets e g = rw (ne-eqb (r .kind) putx n, e, g)
+
+-- so many cards, as they are read
+pub cards-few : (w : List ℕ) → formed w ≡ true → (cards : ℕ) → cards ≡ cardsOf w → cards ≤ mostCards
+cards-few w f cards e = let s = sizes w f .few-cards in omega arith
+
+-- The head request
+
+module _ (w : List ℕ) (f : formed w ≡ true) (some : 0 < waitingOf w) (r : Request) (at : r ≡ requestAt w 0) where
+  pub head-is : getD (view w .line) 0 noRequest ≡ r
+  head-is = view-request w 0 some ∙ sym at
+
+  -- it is well formed
+  pub head-wf : RequestWf (view w .cards) (view w .blocks) r
+  head-wf = request→ (view w .cards) (view w .blocks) r (rw (← head-is) (All-at (λ r. okRequest (view w .cards) (view w .blocks) r ≡ true)
+      (view w .line) 0 noRequest (let n = waiting-is w in omega arith) (wf w f .requests)))
+
+  pub head-card : r .card < mostCards
+  unfolding view
+  head-card = let c = head-wf .card in let s = sizes w f .few-cards in omega arith
+
+  pub head-block : r .block < mostBlocks
+  unfolding view
+  head-block = let b = head-wf .block in let s = sizes w f .few-blocks in omega arith
+
+  -- and so is its block
+  pub block-wf : BlockWf (view w .cards) (view w .last .0) (view w .block (r .block))
+  block-wf = wf w f .used (r .block) head-block (head-wf .block)
+
+  -- home's part of the block, as it is read
+  module _ (h : Home) (is : (h .memory ≡ memoryAt w (r .block)) × (h .owner ≡ ownerAt w (r .block)) × (h .sharers ≡ sharersAt w (r .block))) where
+    pub home-is : HomeIs (view w .block (r .block)) h
+    home-is =
+        let e = view-block w (r .block) head-block in
+        record {
+          memory = ap (λ (B : Block). B .memory) e ∙ sym (is .0);
+          owner = ap (λ (B : Block). B .owner) e ∙ sym (is .1);
+          sharers = ap (λ (B : Block). B .sharers) e ∙ sym (is .2);
+        }
+
+    pub owner-known : homeOrCard (cardsOf w) (h .owner) ≡ true
+    unfolding view
+    owner-known = ap (homeOrCard (cardsOf w)) (sym (home-is .owner)) ∙ block-wf .owner
+
+    pub owner-there : homeOrCard mostCards (h .owner) ≡ true
+    unfolding homeOrCard
+    owner-there = or-i {a = eqb (h .owner) home} (λ n. lt-ltb (h .owner) mostCards
+        (let l = ltb-true (h .owner) (cardsOf w) (rw n at owner-known) in let s = sizes w f .few-cards in omega arith))
+
+    pub owner-is : (x : Cell) → x ≡ view w .block (r .block) .cell (h .owner) → view w .block (r .block) .cell (view w .block (r .block) .owner) ≡ x
+    owner-is x e = ap (λ k. view w .block (r .block) .cell k) (home-is .owner) ∙ sym e
+
+  pub asker-is : (x : Cell) → x ≡ cellAt w (r .card) (r .block) → cellOf (view w) (r .card) (r .block) ≡ x
+  asker-is x e = view-cell w (r .card) (r .block) head-card head-block ∙ sym e
+
+  -- What is read of the head's block leads to the decision
+
+  module _ (h : Home) (is : (h .memory ≡ memoryAt w (r .block)) × (h .owner ≡ ownerAt w (r .block)) × (h .sharers ≡ sharersAt w (r .block)))
+      (x : Cell) (ex : x ≡ cellAt w (r .card) (r .block))
+      (y : Cell) (ey : y ≡ view w .block (r .block) .cell (h .owner))
+      (i : Bool) (ei : (B : Block) → HomeIs B h → B .cell (r .card) .state ≡ x .state → B .cell (B .owner) .state ≡ y .state → i ≡ impossible B r) where
+    asker-state : view w .block (r .block) .cell (r .card) .state ≡ x .state
+    asker-state = ap (λ (z : Cell). z .state) (asker-is x ex)
+
+    impossible-is : i ≡ impossible (view w .block (r .block)) r
+    impossible-is = ei (view w .block (r .block)) (home-is h is) asker-state (ap (λ (z : Cell). z .state) (owner-is h is y ey))
+
+    pub free-impossible : i ≡ true → No Impossible ≡ judgedFree (view w) r
+    unfolding judgedFree
+    free-impossible t = rw (← impossible-is, t)
+
+    module _ (n : i ≡ false) (pool : ℕ) (ep : pool ≡ pooledOf w) where
+      full-is : (not (eqb (r .kind) putx) && leb room pool) ≡ noRoomFor (view w) r
+      unfolding noRoomFor
+      full-is = ap (λ k. not (eqb (r .kind) putx) && leb room k) (ep ∙ sym (pooled-is w))
+
+      pub free-full : (not (eqb (r .kind) putx) && leb room pool) ≡ true → No PoolFull ≡ judgedFree (view w) r
+      unfolding judgedFree
+      free-full t = rw (← impossible-is, n, ← full-is, t)
+
+      pub free-turn : (not (eqb (r .kind) putx) && leb room pool) ≡ false → (cards : ℕ) → cards ≡ cardsOf w
+          → (t : Turn) → ((B : Block) → HomeIs B h → B .cell (r .card) .state ≡ x .state → t ≡ turn cards B r) → Yes t ≡ judgedFree (view w) r
+      unfolding judgedFree view
+      free-turn f cards ec t et = rw (← impossible-is, n, ← full-is, f)
+          (ap Yes (et (view w .block (r .block)) (home-is h is) asker-state ∙ ap (λ k. turn k (view w .block (r .block)) r) ec))
+
+  -- Refusals 12 and 9 come first
+
+  pub numbers-spent : (n : ℕ) → n ≡ lastOf w → lastNumber ≤ n → No NumbersSpent ≡ judged (view w) r
+  unfolding judged view
+  numbers-spent n e s = rw (le-leb lastNumber (lastOf w) (omega arith))
+
+  module _ (n : ℕ) (e : n ≡ lastOf w) (u : n < lastNumber) (i : Bool) (ei : i ≡ held (cardsOf w) (view w .block (r .block))) where
+    pub block-held : i ≡ true → No BlockHeld ≡ judged (view w) r
+    unfolding judged view
+    block-held t = rw (lt-leb lastNumber (lastOf w) (omega arith), ← ei, t)
+
+    pub block-free : i ≡ false → (j : Judged) → j ≡ judgedFree (view w) r → j ≡ judged (view w) r
+    unfolding judged view
+    block-free t j ej = rw (lt-leb lastNumber (lastOf w) (omega arith), ← ei, t) ej

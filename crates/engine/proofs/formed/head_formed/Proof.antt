@@ -1,0 +1,41 @@
+-- `formed::head_formed`: the test of the header, word by word.
+use borrow.Author.Needs.{needs}
+use Rattle.engine.specs.Tested.{headTest}
+use Rattle.engine.proofs.formed.head_formed.Statement.{statement}
+use Rattle.engine.proofs.formed.head_formed.Tie as tie
+
+cards-requires : tie.Need-cards-requires
+cards-requires c κs = search needs
+
+blocks-requires : tie.Need-blocks-requires
+blocks-requires c κs = search needs
+
+are-sizes-requires : tie.Need-are-sizes-requires
+are-sizes-requires c κs = search needs
+
+waiting-requires : tie.Need-waiting-requires
+waiting-requires c κs = search needs
+
+pooled-requires : tie.Need-pooled-requires
+pooled-requires c κs = search needs
+
+returns : tie.Need-returns
+unfolding headTest
+returns c = rw (
+  c .before .before .are-sizes .ensures,
+  c .before .before .before .before .cards .ensures,
+  c .before .before .before .blocks2 .ensures,
+  c .before .waiting .ensures,
+  c .pooled .ensures,
+)
+
+pub head-formed-spec : {M : Type 1} → statement M
+head-formed-spec =
+    tie.close
+    (tie.spec
+    cards-requires
+    blocks-requires
+    are-sizes-requires
+    waiting-requires
+    pooled-requires
+    returns)

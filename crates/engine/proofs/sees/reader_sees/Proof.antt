@@ -1,0 +1,46 @@
+-- `sees::reader_sees` is the rules' `readerSees`, arm by arm.
+use borrow.Author.Needs.{needs}
+use mathlib.Core.List.{[], _∷_}
+use mathlib.Core.Path.{_≡_, refl, sym, _∙_, ap}
+use Rattle.rules.specs.Chassis.{goes}
+use Rattle.rules.specs.Order.{readerSees}
+use Rattle.engine.proofs.Seeing.{arm}
+use Rattle.engine.proofs.sees.reader_sees.Statement.{statement}
+use Rattle.engine.proofs.sees.reader_sees.Tie as tie
+
+is-reader-requires : tie.Need-is-reader-requires
+is-reader-requires c κs = search needs
+
+sees-getx-requires : tie.Need-sees-getx-requires
+sees-getx-requires c κs = search needs
+
+goes-for-requires : tie.Need-goes-for-requires
+goes-for-requires c κs = search needs
+
+returns : tie.Need-returns
+unfolding readerSees
+returns c =
+    let a = c .before .before .before .before .before .args in
+    let e = c .goes-for .ensures ∙ ap (λ s. goes s (a .cell)) (c .before .sees-getx .ensures) in
+    let is = sym (c .before .before .before .is-reader .ensures) ∙ c .before .before .if1 .taken in
+    arm (λ t. c .goes-for .result ≡ readerSees t (a .cell)) (a .turn) (1 ∷ 3 ∷ []) (c .before .before .before .before .match .keys1)
+    ((λ _. rw is e), ((λ _. rw is e), tt))
+
+returns-2 : tie.Need-returns-2
+unfolding readerSees
+returns-2 c =
+    let a = c .before .before .before .args in
+    let not = sym (c .before .is-reader .ensures) ∙ c .if1 .left in
+    arm (λ t. a .cell ≡ readerSees t (a .cell)) (a .turn) (1 ∷ 3 ∷ []) (c .before .before .match .keys1) ((λ _. rw not), ((λ _. rw not), tt))
+
+returns-3 : tie.Need-returns-3
+unfolding readerSees
+returns-3 c =
+    let a = c .before .args in
+    arm (λ t. a .cell ≡ readerSees t (a .cell)) (a .turn) (0 ∷ 2 ∷ 4 ∷ 5 ∷ []) (c .match .keys2)
+    ((λ _. refl), ((λ _. refl), ((λ _. refl), ((λ _. refl), tt))))
+
+pub reader-sees-spec : {M : Type 1} → statement M
+reader-sees-spec =
+    tie.close
+    (tie.spec is-reader-requires sees-getx-requires goes-for-requires returns returns-2 returns-3)

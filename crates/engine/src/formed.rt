@@ -1,0 +1,309 @@
+// Refusal 15: whether words are those of a well formed chassis, tested item by item.
+use crate::layout::BLOCK_WORDS;
+use crate::layout::CELL_WORDS;
+use crate::layout::HEAD;
+use crate::layout::HOME_WORDS;
+use crate::layout::LINE;
+use crate::layout::PLACE_WORDS;
+use crate::layout::POOL;
+use crate::layout::WORDS;
+use crate::words::Home;
+use crate::words::blocks;
+use crate::words::cards;
+use crate::words::cell_at;
+use crate::words::home_at;
+use crate::words::last;
+use crate::words::message_at;
+use crate::words::pooled;
+use crate::words::request_at;
+use crate::words::waiting;
+use rules::kinds::Cell;
+use rules::kinds::Message;
+use rules::kinds::OrderNo;
+use rules::kinds::Request;
+use rules::numbers::GETS;
+use rules::numbers::HOME;
+use rules::numbers::LAST_RETRY;
+use rules::numbers::MOST_BLOCKS;
+use rules::numbers::MOST_CARDS;
+use rules::numbers::PUTX;
+use rules::numbers::ROOM;
+use rules::numbers::STATES;
+use rules::table::loads;
+use rules::table::waits;
+ghost use mathlib.Core.Path.{_≡_};
+ghost use mathlib.Core.Bool.{_&&_};
+ghost use Prim.Native.Nat.{_+_, _^_, _≤_, _<_};
+ghost use lib.ListN.{length};
+ghost use Rattle.rules.specs.Tests.{all};
+ghost use Rattle.rules.specs.Masks.{inside};
+ghost use Rattle.rules.specs.Numbers.{mostCards, mostBlocks, room};
+ghost use Rattle.rules.specs.Formed.{sizes, homeOrCard, okCell, okRequest, okMessage};
+ghost use Rattle.engine.specs.Layout.{allWords};
+ghost use Rattle.engine.specs.Words.{cardsOf, formed};
+ghost use Rattle.engine.specs.Tested.{
+  threeAt,
+  fiveAt,
+  headTest,
+  cellTest,
+  blockTest,
+  requestTest,
+  messageTest,
+};
+
+// How many words there are: a proof knows it of a slice only.
+fn len_of(s: &[u64]) -> usize
+    ensures { λ r. ⌜ r ≡ length (now (s .entry)) ⌝ }
+{
+    s.len()
+}
+
+pub(crate) fn sized(s: &[u64; WORDS]) -> usize
+    ensures { λ r. ⌜ length (now (s .entry)) ≡ allWords ⌝ }
+{
+    len_of(s)
+}
+
+// The words from place p on are these.
+fn three_at(s: &[u64; WORDS], p: usize, a: u64, b: u64, c: u64) -> bool
+    requires { ⌜ p + 2 < allWords ⌝ }
+    ensures { λ r. ⌜ r ≡ threeAt (now (s .entry)) p a b c ⌝ }
+{
+    (s[p] == a) & (s[p + 1] == b) & (s[p + 2] == c)
+}
+
+fn five_at(s: &[u64; WORDS], p: usize, a: u64, b: u64, c: u64, d: u64, e: u64) -> bool
+    requires { ⌜ p + 4 < allWords ⌝ }
+    ensures { λ r. ⌜ r ≡ fiveAt (now (s .entry)) p a b c d e ⌝ }
+{
+    (s[p] == a) & (s[p + 1] == b) & (s[p + 2] == c) & (s[p + 3] == d) & (s[p + 4] == e)
+}
+
+// A mask of so many cards is below this.
+fn mask_bound(cards: u64) -> u64
+    requires { ⌜ cards ≤ mostCards ⌝ }
+    ensures { λ r. ⌜ r ≡ 2 ^ cards ⌝ }
+{
+    1 << cards
+}
+
+// The sizes that there are.
+pub(crate) fn are_sizes(cards: u64, blocks: u64) -> bool
+    ensures { λ r. ⌜ r ≡ sizes cards blocks ⌝ }
+{
+    (1 <= cards) & (cards <= MOST_CARDS as u64) & (1 <= blocks) & (blocks <= MOST_BLOCKS as u64)
+}
+
+// Home or a card that is there.
+fn home_or_card(k: u8, cards: u64) -> bool
+    ensures { λ r. ⌜ r ≡ homeOrCard cards k ⌝ }
+{
+    (k == HOME) | ((k as u64) < cards)
+}
+
+// No card in the mask but those that are there.
+fn is_inside(mask: u8, cards: u64) -> bool
+    requires { ⌜ cards ≤ mostCards ⌝ }
+    ensures { λ r. ⌜ r ≡ inside cards mask ⌝ }
+{
+    (mask as u64) < mask_bound(cards)
+}
+
+// A cell of a card that is there.
+fn ok_cell(x: Cell, last: OrderNo) -> bool
+    ensures { λ r. ⌜ r ≡ okCell (last .0) x ⌝ }
+{
+    let n = x.awaits;
+    let w = waits(x.state);
+    let l = loads(x.state);
+    ((x.state as usize) < STATES)
+        & (n.0 <= last.0)
+        & (!w | (n.0 != 0))
+        & (w | (n.0 == 0))
+        & (l | (x.value == 0))
+}
+
+// Home's part of a block that is there.
+fn ok_home(h: Home, cards: u64) -> bool
+    requires { ⌜ cards ≤ mostCards ⌝ }
+    ensures { λ r. ⌜ r ≡ (homeOrCard cards (h .owner) && inside cards (h .sharers)) ⌝ }
+{
+    home_or_card(h.owner, cards) & is_inside(h.sharers, cards)
+}
+
+// A request in the line.
+fn ok_request(r: Request, cards: u64, blocks: u64) -> bool
+    requires { ⌜ cards ≤ mostCards ⌝ }
+    ensures { λ t. ⌜ t ≡ okRequest cards blocks r ⌝ }
+{
+    let n = r.retry;
+    let bound = mask_bound(cards);
+    let mask = r.mask as u64;
+    ((r.card as u64) < cards)
+        & ((r.block as u64) < blocks)
+        & (GETS <= r.kind)
+        & (r.kind <= PUTX)
+        & (mask < bound)
+        & (n.0 <= LAST_RETRY)
+        & ((n.0 != LAST_RETRY) | (mask == bound - 1))
+}
+
+// A message in the pool.
+fn ok_message(m: Message, cards: u64, blocks: u64, last: OrderNo) -> bool
+    ensures { λ r. ⌜ r ≡ okMessage cards blocks (last .0) m ⌝ }
+{
+    let n = m.number;
+    home_or_card(m.sender, cards)
+        & ((m.receiver as u64) < cards)
+        & ((m.block as u64) < blocks)
+        & (n.0 != 0)
+        & (n.0 <= last.0)
+}
+
+// The header.
+fn head_formed(s: &[u64; WORDS]) -> bool
+    ensures { λ r. ⌜ r ≡ headTest (now (s .entry)) ⌝ }
+{
+    are_sizes(cards(s), blocks(s)) & (waiting(s) <= ROOM as u64) & (pooled(s) <= ROOM as u64)
+}
+
+// A cell, where so many cards have one: its words are those of what is read, and that is well formed; or they are those of an idle cell.
+fn cell_formed(s: &[u64; WORDS], card: u8, block: u8, cards: u64) -> bool
+    requires { ⌜ (card < mostCards) × (block < mostBlocks) ⌝ }
+    ensures { λ r. ⌜ r ≡ cellTest (now (s .entry)) cards block card ⌝ }
+{
+    let p = HEAD + BLOCK_WORDS * (block as usize) + HOME_WORDS + CELL_WORDS * (card as usize);
+    if (card as u64) < cards {
+        let x = cell_at(s, card, block);
+        let n = x.awaits;
+        return three_at(s, p, x.state as u64, x.value as u64, n.0) & ok_cell(x, last(s));
+    }
+    three_at(s, p, 0, 0, 0)
+}
+
+// The cells of a block.
+fn cells_formed(s: &[u64; WORDS], block: u8, cards: u64) -> bool
+    requires { ⌜ block < mostBlocks ⌝ }
+    ensures { λ r. ⌜ r ≡ all mostCards (cellTest (now (s .entry)) cards block) ⌝ }
+{
+    let mut ok = true;
+    let mut card = 0;
+    while card < MOST_CARDS {
+        ok = ok & cell_formed(s, card, block, cards);
+        card += 1;
+    }
+    ok
+}
+
+// A block: home's part, and the cells.
+fn block_formed(s: &[u64; WORDS], block: u8) -> bool
+    requires { ⌜ (cardsOf (now s) ≤ mostCards) × (block < mostBlocks) ⌝ }
+    ensures { λ r. ⌜ r ≡ blockTest (now (s .entry)) block ⌝ }
+{
+    let p = HEAD + BLOCK_WORDS * (block as usize);
+    let n = cards(s);
+    if (block as u64) < blocks(s) {
+        let h = home_at(s, block);
+        let same = three_at(s, p, h.memory as u64, h.owner as u64, h.sharers as u64);
+        return same & ok_home(h, n) & cells_formed(s, block, n);
+    }
+    three_at(s, p, 0, HOME as u64, 0) & cells_formed(s, block, 0)
+}
+
+// The blocks.
+fn blocks_formed(s: &[u64; WORDS]) -> bool
+    requires { ⌜ cardsOf (now s) ≤ mostCards ⌝ }
+    ensures { λ r. ⌜ r ≡ all mostBlocks (blockTest (now (s .entry))) ⌝ }
+{
+    let mut ok = true;
+    let mut block = 0;
+    while block < MOST_BLOCKS {
+        ok = ok & block_formed(s, block);
+        block += 1;
+    }
+    ok
+}
+
+// A place of the line: a request, or zeros.
+fn request_formed(s: &[u64; WORDS], place: usize) -> bool
+    requires { ⌜ (cardsOf (now s) ≤ mostCards) × (place < room) ⌝ }
+    ensures { λ r. ⌜ r ≡ requestTest (now (s .entry)) place ⌝ }
+{
+    let p = LINE + PLACE_WORDS * place;
+    if (place as u64) < waiting(s) {
+        let r = request_at(s, place);
+        let n = r.retry;
+        let same = five_at(
+            s,
+            p,
+            r.card as u64,
+            r.block as u64,
+            r.kind as u64,
+            r.mask as u64,
+            n.0 as u64,
+        );
+        return same & ok_request(r, cards(s), blocks(s));
+    }
+    five_at(s, p, 0, 0, 0, 0, 0)
+}
+
+// The line.
+fn line_formed(s: &[u64; WORDS]) -> bool
+    requires { ⌜ cardsOf (now s) ≤ mostCards ⌝ }
+    ensures { λ r. ⌜ r ≡ all room (requestTest (now (s .entry))) ⌝ }
+{
+    let mut ok = true;
+    let mut place = 0;
+    while place < ROOM {
+        ok = ok & request_formed(s, place);
+        place += 1;
+    }
+    ok
+}
+
+// A place of the pool: a message, or zeros.
+fn message_formed(s: &[u64; WORDS], place: usize) -> bool
+    requires { ⌜ place < room ⌝ }
+    ensures { λ r. ⌜ r ≡ messageTest (now (s .entry)) place ⌝ }
+{
+    let p = POOL + PLACE_WORDS * place;
+    if (place as u64) < pooled(s) {
+        let m = message_at(s, place);
+        let n = m.number;
+        let same = five_at(
+            s,
+            p,
+            m.sender as u64,
+            m.receiver as u64,
+            m.block as u64,
+            m.value as u64,
+            n.0,
+        );
+        return same & ok_message(m, cards(s), blocks(s), last(s));
+    }
+    five_at(s, p, 0, 0, 0, 0, 0)
+}
+
+// The pool.
+fn pool_formed(s: &[u64; WORDS]) -> bool
+    ensures { λ r. ⌜ r ≡ all room (messageTest (now (s .entry))) ⌝ }
+{
+    let mut ok = true;
+    let mut place = 0;
+    while place < ROOM {
+        ok = ok & message_formed(s, place);
+        place += 1;
+    }
+    ok
+}
+
+// The words are those of a well formed chassis.
+pub(crate) fn is_formed(s: &[u64; WORDS]) -> bool
+    ensures { λ r. ⌜ r ≡ formed (now (s .entry)) ⌝ }
+{
+    sized(s);
+    if head_formed(s) {
+        return blocks_formed(s) & line_formed(s) & pool_formed(s);
+    }
+    false
+}

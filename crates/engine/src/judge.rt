@@ -1,0 +1,143 @@
+// What is decided of the request at the head: the first reason to refuse it, or its turn. Nothing is stored here.
+use crate::layout::WORDS;
+use crate::mask::suffices;
+use crate::words::Home;
+use crate::words::cards;
+use crate::words::cell_at;
+use crate::words::home_at;
+use crate::words::last;
+use crate::words::pooled;
+use rules::kinds::Cell;
+use rules::kinds::OrderNo;
+use rules::kinds::Refusal;
+use rules::kinds::Request;
+use rules::kinds::Turn;
+use rules::numbers::GETS;
+use rules::numbers::HOME;
+use rules::numbers::I;
+use rules::numbers::LAST_NUMBER;
+use rules::numbers::PUTX;
+use rules::numbers::ROOM;
+use rules::table;
+ghost use mathlib.Core.Path.{_≡_};
+ghost use mathlib.Core.Bool.{true};
+ghost use Prim.Native.Nat.{ℕ, _≤_, _<_};
+ghost use Rattle.rules.specs.Numbers.{mostCards, mostBlocks};
+ghost use Rattle.rules.specs.Chassis.{Block};
+ghost use Rattle.rules.specs.Order.{held, impossible, turn};
+ghost use Rattle.rules.specs.Formed.{homeOrCard};
+ghost use Rattle.engine.specs.Words.{view, cardsOf, waitingOf, requestAt, formed};
+ghost use Rattle.engine.specs.Ordering.{HomeIs, judgedFree, judged};
+
+pub(crate) enum Judged {
+    No(Refusal),
+    Yes(Turn),
+}
+
+// Refusals 12, 9, 13 and 10, in this order; then the turn.
+pub(crate) fn judge(s: &[u64; WORDS], request: Request) -> Judged
+    requires { ⌜ (formed (now s) ≡ true) × (0 < waitingOf (now s)) × (request ≡ requestAt (now s) 0) ⌝ }
+    ensures { λ r. ⌜ r ≡ judged (view (now (s .entry))) request ⌝ }
+{
+    let number = last(s);
+    if LAST_NUMBER <= number.0 {
+        return Judged::No(Refusal::NumbersSpent);
+    }
+    let block = request.block;
+    if held(s, block) {
+        return Judged::No(Refusal::BlockHeld);
+    }
+    judge_free(s, request)
+}
+
+// The block is not held: refusals 13 and 10, then the turn.
+fn judge_free(s: &[u64; WORDS], request: Request) -> Judged
+    requires { ⌜ (formed (now s) ≡ true) × (0 < waitingOf (now s)) × (request ≡ requestAt (now s) 0) ⌝ }
+    ensures { λ r. ⌜ r ≡ judgedFree (view (now (s .entry))) request ⌝ }
+{
+    let block = request.block;
+    let home = home_at(s, block);
+    let asker = cell_at(s, request.card, block);
+    let owner = owner_cell(s, block, home.owner);
+    if impossible(home, asker.state, owner.state, request) {
+        return Judged::No(Refusal::Impossible);
+    }
+    if (request.kind != PUTX) & ((ROOM as u64) <= pooled(s)) {
+        return Judged::No(Refusal::PoolFull);
+    }
+    Judged::Yes(turn_of(cards(s), home, asker.state, request))
+}
+
+// Some card waits for data of this block.
+fn held(s: &[u64; WORDS], block: u8) -> bool
+    requires { ⌜ (cardsOf (now s) ≤ mostCards) × (block < mostBlocks) ⌝ }
+    ensures { λ r. ⌜ r ≡ held (cardsOf (now (s .entry))) (view (now (s .entry)) .block block) ⌝ }
+{
+    let n = cards(s);
+    let mut found = false;
+    let mut card: u8 = 0;
+    while (card as u64) < n {
+        let cell = cell_at(s, card, block);
+        found = found | table::waits(cell.state);
+        card += 1;
+    }
+    found
+}
+
+// The owner's cell, or an idle one where home is the owner.
+pub(crate) fn owner_cell(s: &[u64; WORDS], block: u8, owner: u8) -> Cell
+    requires { ⌜ (block < mostBlocks) × (homeOrCard mostCards owner ≡ true) ⌝ }
+    ensures { λ r. ⌜ r ≡ view (now (s .entry)) .block block .cell owner ⌝ }
+{
+    if owner == HOME {
+        return Cell {
+            state: I,
+            value: 0,
+            awaits: OrderNo(0),
+        };
+    }
+    cell_at(s, owner, block)
+}
+
+// The asker and the owner in these states make the request impossible.
+fn impossible(home: Home, asker: u8, owner_state: u8, request: Request) -> bool
+    ensures { λ r. ⌜ ((B : Block) → HomeIs B home → B .cell (request .card) .state ≡ asker
+        → B .cell (B .owner) .state ≡ «owner_state» → r ≡ impossible B request) ⌝ }
+{
+    let owner = home.owner;
+    let is_put = request.kind == PUTX;
+    let owns = owner == request.card;
+    let stands = table::put_stands(asker);
+    !table::comes_from(request.kind, asker)
+        | (!is_put & owns)
+        | (!is_put & !(owner == HOME) & !table::can_give(owner_state))
+        | (is_put & stands & !owns)
+        | (is_put & !stands & owns)
+}
+
+// What comes of the request.
+fn turn_of(cards: u64, home: Home, asker: u8, request: Request) -> Turn
+    requires { ⌜ (cards ≤ mostCards) × (homeOrCard mostCards (home .owner) ≡ true) ⌝ }
+    ensures { λ r. ⌜ ((B : Block) → HomeIs B home → B .cell (request .card) .state ≡ asker → r ≡ turn cards B request) ⌝ }
+{
+    if request.kind == PUTX {
+        if table::put_stands(asker) {
+            return Turn::PutTaken;
+        }
+        return Turn::PutLapsed;
+    }
+    let gets = request.kind == GETS;
+    if suffices(cards, home, request) {
+        if gets {
+            Turn::GetsGranted
+        } else {
+            Turn::GetxGranted
+        }
+    } else {
+        if gets {
+            Turn::GetsMissed
+        } else {
+            Turn::GetxMissed
+        }
+    }
+}

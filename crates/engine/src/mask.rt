@@ -1,0 +1,57 @@
+// The mask test: whether the cards that a request names are enough.
+use crate::masks::has;
+use crate::words::Home;
+use rules::kinds::Request;
+use rules::numbers::GETS;
+use rules::numbers::HOME;
+ghost use mathlib.Core.Path.{_≡_};
+ghost use mathlib.Core.Bool.{true, _||_};
+ghost use lib.Dec.{eqb};
+ghost use Prim.Native.Nat.{ℕ, _≤_};
+ghost use Rattle.rules.specs.Numbers.{mostCards, home};
+ghost use Rattle.rules.specs.Masks.{has};
+ghost use Rattle.rules.specs.Chassis.{Block};
+ghost use Rattle.rules.specs.Order.{suffices};
+ghost use Rattle.rules.specs.Formed.{homeOrCard};
+ghost use Rattle.engine.specs.Ordering.{HomeIs, sharersNamed};
+
+// The owner is home or named; GETX needs also every sharer other than the asker.
+pub(crate) fn suffices(cards: u64, home: Home, request: Request) -> bool
+    requires { ⌜ (cards ≤ mostCards) × (homeOrCard mostCards (home .owner) ≡ true) ⌝ }
+    ensures { λ r. ⌜ ((B : Block) → HomeIs B home → r ≡ suffices cards B request) ⌝ }
+{
+    if !owner_named(home.owner, request.mask) {
+        return false;
+    }
+    if request.kind == GETS {
+        return true;
+    }
+    sharers_named(cards, home.sharers, request)
+}
+
+// The owner is home or in the mask.
+fn owner_named(owner: u8, mask: u8) -> bool
+    requires { ⌜ homeOrCard mostCards owner ≡ true ⌝ }
+    ensures { λ r. ⌜ r ≡ (eqb owner home || has mask owner) ⌝ }
+{
+    if owner == HOME {
+        return true;
+    }
+    has(mask, owner)
+}
+
+// The cards are walked one by one.
+fn sharers_named(cards: u64, sharers: u8, request: Request) -> bool
+    requires { ⌜ cards ≤ mostCards ⌝ }
+    ensures { λ r. ⌜ r ≡ sharersNamed cards sharers request ⌝ }
+{
+    let mask = request.mask;
+    let asker = request.card;
+    let mut named = true;
+    let mut card: u8 = 0;
+    while (card as u64) < cards {
+        named = named & (!has(sharers, card) | (card == asker) | has(mask, card));
+        card += 1;
+    }
+    named
+}

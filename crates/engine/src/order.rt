@@ -1,0 +1,90 @@
+// Order, on words that are formed: the request at the head has its turn.
+use crate::judge::Judged;
+use crate::judge::judge;
+use crate::judge::owner_cell;
+use crate::layout::WORDS;
+use crate::sees::cards_see;
+use crate::turns::given;
+use crate::turns::home_after;
+use crate::turns::line_after;
+use crate::turns::pool_after;
+use crate::words::cell_at;
+use crate::words::home_at;
+use crate::words::last;
+use crate::words::put_home;
+use crate::words::request_at;
+use crate::words::set_last;
+use crate::words::waiting;
+use rules::kinds::Answer;
+use rules::kinds::Message;
+use rules::kinds::OrderNo;
+use rules::kinds::Refusal;
+use rules::kinds::Request;
+use rules::kinds::Turn;
+use rules::numbers::GRANTED;
+use rules::numbers::PUT_LAPSED;
+use rules::numbers::PUT_TAKEN;
+use rules::numbers::TOO_SMALL;
+ghost use mathlib.Core.Path.{_≡_};
+ghost use mathlib.Core.Bool.{true};
+ghost use Prim.Native.Nat.{_<_};
+ghost use Rattle.rules.specs.Order.{outcomeNo};
+ghost use Rattle.rules.specs.declared.kinds.Event.the-variants.{Order};
+ghost use Rattle.engine.specs.declared.judge.Judged.the-variants.{Yes};
+ghost use Rattle.engine.specs.Words.{view, waitingOf, requestAt, formed};
+ghost use Rattle.engine.specs.Parts.{Does};
+ghost use Rattle.engine.specs.Ordering.{judged};
+
+pub(crate) fn order(s: &mut [u64; WORDS]) -> Answer
+    requires { ⌜ formed (now s) ≡ true ⌝ }
+    ensures { λ r. ⌜ Does (now (s .entry)) Order r (now (s .exit)) ⌝ }
+{
+    if waiting(s) == 0 {
+        return Answer::Refused(Refusal::LineEmpty);
+    }
+    let request = request_at(s, 0);
+    match judge(s, request) {
+        Judged::No(refusal) => Answer::Refused(refusal),
+        Judged::Yes(turn) => take_turn(s, request, turn),
+    }
+}
+
+// The head's turn, under the next order number: the cards' parts, home's part, the message, the line.
+fn take_turn(s: &mut [u64; WORDS], request: Request, turn: Turn) -> Answer
+    requires { ⌜ (formed (now s) ≡ true) × (0 < waitingOf (now s)) × (request ≡ requestAt (now s) 0)
+        × (Yes turn ≡ judged (view (now s)) request) ⌝ }
+    ensures { λ r. ⌜ Does (now (s .entry)) Order r (now (s .exit)) ⌝ }
+{
+    let before = last(s);
+    let number = OrderNo(before.0 + 1);
+    let block = request.block;
+    let asker = request.card;
+    let home = home_at(s, block);
+    let put = cell_at(s, asker, block);
+    let gives = given(home, owner_cell(s, block, home.owner));
+    cards_see(s, turn, number, request, home.owner);
+    put_home(s, block, home_after(turn, home, asker, put.value, gives));
+    let message = Message {
+        sender: home.owner,
+        receiver: asker,
+        block,
+        value: gives,
+        number,
+    };
+    pool_after(s, turn, message);
+    line_after(s, turn, home, request);
+    set_last(s, number);
+    Answer::Done(outcome_no(turn))
+}
+
+// The outcome that Order answers.
+fn outcome_no(turn: Turn) -> u32
+    ensures { λ r. ⌜ r ≡ outcomeNo turn ⌝ }
+{
+    match turn {
+        Turn::GetsGranted | Turn::GetxGranted => GRANTED,
+        Turn::GetsMissed | Turn::GetxMissed => TOO_SMALL,
+        Turn::PutTaken => PUT_TAKEN,
+        Turn::PutLapsed => PUT_LAPSED,
+    }
+}

@@ -1,0 +1,113 @@
+// The cards' parts of a turn: what the asker, the owner and the readers make of the request.
+use crate::ask::goes_for;
+use crate::layout::WORDS;
+use crate::masks::has;
+use crate::words::cards;
+use crate::words::cell_at;
+use crate::words::put_cell;
+use rules::kinds::Cell;
+use rules::kinds::OrderNo;
+use rules::kinds::Request;
+use rules::kinds::Turn;
+use rules::numbers::I;
+use rules::table;
+ghost use mathlib.Core.Path.{_≡_};
+ghost use Prim.Native.Nat.{ℕ, _≤_, _<_};
+ghost use Rattle.rules.specs.Numbers.{mostCards, mostBlocks};
+ghost use Rattle.rules.specs.Chassis.{Block, Chassis, cellOf};
+ghost use Rattle.rules.specs.Order.{askerSees, ownerSees, readerSees, sees};
+ghost use Rattle.engine.specs.Words.{words, cardsOf};
+ghost use Rattle.engine.specs.Parts.{CellFits};
+ghost use Rattle.engine.specs.Ordering.{blockChanged, seenBelow};
+
+// The asker's cell after the turn.
+fn asker_sees(turn: Turn, number: OrderNo, cell: Cell) -> Cell
+    ensures { λ r. ⌜ r ≡ askerSees turn (number .0) cell ⌝ }
+{
+    let idle = Cell {
+        state: I,
+        value: 0,
+        awaits: OrderNo(0),
+    };
+    match turn {
+        Turn::GetsGranted | Turn::GetxGranted => goes_for(
+            number,
+            table::granted_to(cell.state),
+            cell,
+        ),
+        Turn::GetsMissed | Turn::GetxMissed => cell,
+        Turn::PutTaken | Turn::PutLapsed => idle,
+    }
+}
+
+// The owner's cell after the turn.
+fn owner_sees(turn: Turn, cell: Cell) -> Cell
+    ensures { λ r. ⌜ r ≡ ownerSees turn cell ⌝ }
+{
+    match turn {
+        Turn::GetsGranted => goes_for(OrderNo(0), table::sees_gets(cell.state), cell),
+        Turn::GetxGranted => goes_for(OrderNo(0), table::sees_getx(cell.state), cell),
+        Turn::GetsMissed | Turn::GetxMissed | Turn::PutTaken | Turn::PutLapsed => cell,
+    }
+}
+
+// A reader's cell after the turn.
+fn reader_sees(turn: Turn, cell: Cell) -> Cell
+    ensures { λ r. ⌜ r ≡ readerSees turn cell ⌝ }
+{
+    match turn {
+        Turn::GetxGranted | Turn::GetxMissed => {
+            if table::is_reader(cell.state) {
+                goes_for(OrderNo(0), table::sees_getx(cell.state), cell)
+            } else {
+                cell
+            }
+        }
+        Turn::GetsGranted | Turn::GetsMissed | Turn::PutTaken | Turn::PutLapsed => cell,
+    }
+}
+
+// What a card makes of the request, where home lists this owner.
+fn seen(turn: Turn, number: OrderNo, request: Request, owner: u8, card: u8, cell: Cell) -> Cell
+    requires { ⌜ card < mostCards ⌝ }
+    ensures { λ r. ⌜ ((B : Block) → B .owner ≡ owner → B .cell card ≡ cell → r ≡ sees turn B request (number .0) card) ⌝ }
+{
+    if request.card == card {
+        return asker_sees(turn, number, cell);
+    }
+    if owner == card {
+        return owner_sees(turn, cell);
+    }
+    if has(request.mask, card) {
+        return reader_sees(turn, cell);
+    }
+    cell
+}
+
+// Every card sees the request, one by one.
+pub(crate) fn cards_see(
+    s: &mut [u64; WORDS],
+    turn: Turn,
+    number: OrderNo,
+    request: Request,
+    owner: u8,
+)
+    requires { ⌜ (cardsOf (now s) ≤ mostCards) × (request .block < mostBlocks) ⌝ }
+    ensures { λ _. ⌜ ((c : Chassis) → now (s .entry) ≡ words c → ((k : ℕ) → k < mostCards → CellFits (cellOf c k (request .block)))
+        → c .block (request .block) .owner ≡ owner
+        → now (s .exit) ≡ words (blockChanged c (request .block) (seenBelow (c .cards) turn (c .block (request .block)) request (number .0)))) ⌝ }
+{
+    let block = request.block;
+    let n = cards(s);
+    let mut card: u8 = 0;
+    while (card as u64) < n {
+        let cell = cell_at(s, card, block);
+        put_cell(
+            s,
+            card,
+            block,
+            seen(turn, number, request, owner, card, cell),
+        );
+        card += 1;
+    }
+}

@@ -1,0 +1,52 @@
+// Start: the words of a new chassis.
+use crate::formed::are_sizes;
+use crate::layout::WORDS;
+use crate::words::Home;
+use crate::words::put_home;
+use crate::words::set_blocks;
+use crate::words::set_cards;
+use rules::kinds::Answer;
+use rules::kinds::Refusal;
+use rules::numbers::HOME;
+use rules::numbers::MOST_BLOCKS;
+ghost use mathlib.Core.Path.{_≡_};
+ghost use Rattle.rules.specs.Events.{start};
+ghost use Rattle.engine.specs.Words.{words};
+
+// What Start answers, and the words that it makes.
+pub struct Started {
+    pub answer: Answer,
+    pub state: [u64; WORDS],
+}
+
+// A chassis of so many cards and blocks; of none, where these are out of range.
+pub fn start(cards: u8, blocks: u8) -> Started
+    ensures { λ r. ⌜ (r .answer ≡ start cards blocks .answer) × (r .state ≡ words (start cards blocks .after)) ⌝ }
+{
+    let mut state: [u64; WORDS] = [0; WORDS];
+    let mut block: u8 = 0;
+    while block < MOST_BLOCKS {
+        put_home(
+            &mut state,
+            block,
+            Home {
+                memory: 0,
+                owner: HOME,
+                sharers: 0,
+            },
+        );
+        block += 1;
+    }
+    if !are_sizes(cards as u64, blocks as u64) {
+        return Started {
+            answer: Answer::Refused(Refusal::NoSuchSize),
+            state,
+        };
+    }
+    set_cards(&mut state, cards as u64);
+    set_blocks(&mut state, blocks as u64);
+    Started {
+        answer: Answer::Done(0),
+        state,
+    }
+}
