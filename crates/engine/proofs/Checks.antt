@@ -3,11 +3,11 @@ use Prim.Native.Nat.{ℕ, _+_, _-_, _*_, _%_, _^_, _≤_, _<_}
 use native.Mathlib.Nat.{one-mul, mod-eq-of-lt}
 use native.Mathlib.Numerals.{add-one}
 use native.Mathlib.Omega.{arith}
-use mathlib.Core.Bool.{Bool, true, false, not, _&&_, _||_, and-true, and-assoc, and-comm}
+use mathlib.Core.Bool.{Bool, true, false, cond, not, _&&_, _||_, and-true, and-assoc, and-comm}
 use mathlib.Core.Path.{_≡_, refl}
 use lib.Dec.{eqb, ltb, leb}
 use lib.Pow.{pow-lt}
-use Rattle.rules.specs.Tests.{_⇒_, each, all}
+use Rattle.rules.specs.Tests.{_⇒_, each, all, some}
 use Rattle.rules.specs.Masks.{every, inside}
 use Rattle.rules.specs.Numbers.{mostCards, lastRetry, gets, putx, states}
 use Rattle.rules.specs.Table.{loads, waits}
@@ -37,6 +37,24 @@ module _ (f : ℕ → Bool) (i : ℕ) (ok : Bool) (e : ok ≡ all i f) where
 
   pub all-done : (n : ℕ) → i ≡ n → ok ≡ all n f
   all-done n h = rw (← h) e
+
+pub some-none : (f : ℕ → Bool) → false ≡ some 0 f
+unfolding some
+some-none f = refl
+
+module _ (f : ℕ → Bool) (i : ℕ) (found : Bool) (e : found ≡ some i f) where
+  pub some-more : (r : Bool) → r ≡ f i → (found || r) ≡ some (i + 1) f
+  unfolding some
+  some-more r h = rw (add-one, e, h) (swap (some i f) (f i))
+    where
+      swap : (a b : Bool) → (a || b) ≡ cond b true a
+      swap true true = refl
+      swap true false = refl
+      swap false true = refl
+      swap false false = refl
+
+  pub some-done : (n : ℕ) → i ≡ n → found ≡ some n f
+  some-done n h = rw (← h) e
 
 -- a mask of so many cards is below this
 pub bound-is : (cards : ℕ) → cards ≤ mostCards → 1 * 2 ^ cards % 2 ^ 64 ≡ 2 ^ cards

@@ -1,6 +1,5 @@
 -- What is decided of the head request: the tests that walk the cards, and each way that the decision ends.
-use Prim.Native.Nat.{ℕ, suc, _+_, _≤_, _<_}
-use native.Mathlib.Numerals.{add-one}
+use Prim.Native.Nat.{ℕ, _≤_, _<_}
 use native.Mathlib.Omega.{arith}
 use mathlib.Core.Bool.{Bool, true, false, cond, not, _&&_, _||_}
 use mathlib.Core.List.{List, [], _∷_}
@@ -32,24 +31,7 @@ use Rattle.engine.specs.Words.{view, blockOf, cardsOf, waitingOf, pooled
 use Rattle.engine.specs.Ordering.{HomeIs, sharersNamed, judgedFree, judged}
 use Rattle.engine.proofs.View.{view-block, view-cell, view-request, waiting-is, pooled-is}
 
--- Tests over the numbers below a bound, one more at a time
-
-pub some-none : (f : ℕ → Bool) → false ≡ some 0 f
-unfolding some
-some-none f = refl
-
-pub some-more : (f : ℕ → Bool) (i : ℕ) (found r : Bool) → found ≡ some i f → r ≡ f i → (found || r) ≡ some (i + 1) f
-unfolding some
-some-more f i found r e h = rw (add-one, e, h) (swap (some i f) (f i))
-  where
-    swap : (a b : Bool) → (a || b) ≡ cond b true a
-    swap true true = refl
-    swap true false = refl
-    swap false true = refl
-    swap false false = refl
-
-pub some-done : (f : ℕ → Bool) (i : ℕ) (found : Bool) → found ≡ some i f → (n : ℕ) → i ≡ n → found ≡ some n f
-some-done f i found e n h = rw (← h) e
+-- The tests that walk the cards
 
 -- the code's test of one sharer
 pub named-test : (a a′ b c c′ : Bool) → a ≡ a′ → c ≡ c′ → (not a || b || c) ≡ (a′ ⇒ b || c′)

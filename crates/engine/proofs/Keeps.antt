@@ -13,7 +13,7 @@ use Rattle.rules.specs.Masks.{without, inside}
 use Rattle.rules.specs.Numbers.{mostCards, mostBlocks, home, I}
 use Rattle.rules.specs.Table.{loads, isReader, asked, seesGets, seesGetx}
 use Rattle.rules.specs.Chassis.{Block, Chassis, cellOf, stateOf, idle, freshBlock, fresh, goes, goesFor, withCell, changed, poolChanged}
-use Rattle.rules.specs.Answers.{Result, refusedBy}
+use Rattle.rules.specs.Answers.{Result}
 use Rattle.rules.specs.Order.{
   given,
   memoryAfter,
@@ -43,7 +43,6 @@ use Rattle.rules.specs.Events.{
   rejoinBlock,
   rejoin,
   effect,
-  step,
   start,
 }
 use Rattle.rules.specs.declared.kinds.Cell.{Cell}
@@ -93,6 +92,7 @@ use Rattle.rules.proofs.Stays.{stays-formed}
 use Rattle.rules.proofs.Start.{start-cases, refused≢done, fresh-formed}
 use Rattle.engine.specs.Words.{words, cellAt, messageAt as messageIn, pooledOf, blockOf, first, view, formed}
 use Rattle.engine.specs.Parts.{act}
+use Rattle.engine.proofs.Does.{step-act}
 use Rattle.engine.proofs.View.{formed-chassis, formed-of, BlockFits, RequestFits, MessageFits, Fits, view-words}
 
 -- the numbers of an event fit their kinds: a store's value has 32 bits
@@ -432,18 +432,13 @@ module _ {c : Chassis} (w : Wf c) (h : Kept c) where
 
 -- Formed words stay formed
 
--- on a well formed chassis the test of 15 refuses nothing
-pub act-step : (c : Chassis) (e : Event) → wellFormed c ≡ true → act c e ≡ step c e
-unfolding act step refusedBy
-act-step c e h = rw h
-
 -- an event keeps formed words formed
 pub keeps-formed : (w : List ℕ) (e : Event) → formed w ≡ true → EventFits e → formed (words (act (view w) e .after)) ≡ true
 keeps-formed w e h f =
     let c = view w in
     let wf = formed-chassis w h in
     words-formed (act c e .after)
-    (subst (λ (o : Result). wellFormed (o .after) ≡ true) (sym (act-step c e wf)) (stays-formed c e wf))
+    (subst (λ (o : Result). wellFormed (o .after) ≡ true) (step-act c e wf) (stays-formed c e wf))
     (act-kept (wf→ c wf) (view-kept w) e f)
 
 -- an accepted Start makes formed words

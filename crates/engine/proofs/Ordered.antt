@@ -2,18 +2,17 @@
 use Prim.Native.Nat.{ℕ, zero, suc, _+_, _≤_, _<_}
 use native.Mathlib.Numerals.{add-one}
 use native.Mathlib.Omega.{arith}
-use mathlib.Core.Bool.{true, false, cond, not, _&&_, true≢false}
+use mathlib.Core.Bool.{true, false, true≢false}
 use mathlib.Core.List.{List, [], _∷_, _++_}
 use mathlib.Core.Path.{_≡_, refl, sym, _∙_, ap, subst, fun-ext}
 use mathlib.Core.Logic.{_≢_, inl, inr}
 use lib.ListN.{length, getD, set}
 use lib.Dec.{eqb, leb, ltb}
-use borrow.Author.Tests.{leb-false, lt-ltb, le-ltb, ltb-true, ltb-false}
-use Rattle.rules.specs.Lists.{replace, removed}
-use Rattle.rules.specs.Numbers.{mostCards, mostBlocks, room, lastNumber, lastRetry, putx}
+use borrow.Author.Tests.{leb-false, ltb-true, ltb-false}
+use Rattle.rules.specs.Lists.{removed}
+use Rattle.rules.specs.Numbers.{mostCards, room, lastNumber, putx}
 use Rattle.rules.specs.Table.{putStands}
 use Rattle.rules.specs.Chassis.{Block, Chassis, idle, cellOf, changed, poolChanged}
-use Rattle.rules.specs.Answers.{Result}
 use Rattle.rules.specs.Order.{
   held,
   impossible,
@@ -44,7 +43,7 @@ use Rattle.rules.specs.declared.kinds.Refusal.the-variants.{LineEmpty}
 use Rattle.rules.specs.declared.kinds.Turn.the-variants.{PutLapsed}
 use Rattle.rules.specs.declared.kinds.Event.the-variants.{Order}
 use Rattle.rules.proofs.Tests.{test}
-use Rattle.rules.proofs.Lists.{replace-same}
+use Rattle.rules.proofs.Lists.{replace-same, replace-twice}
 use Rattle.rules.proofs.Refusals.{None}
 use Rattle.rules.proofs.Turns.{sees-cases}
 use Rattle.rules.proofs.Formed.{unused-idle}
@@ -66,14 +65,14 @@ use Rattle.engine.specs.Words.{
   requestAt,
   formed,
 }
-use Rattle.engine.specs.Parts.{Does, CellFits, putHome, homeChanged, lineChanged, lastChanged}
+use Rattle.engine.specs.Parts.{Does, CellFits, putHome, lineChanged}
 use Rattle.engine.specs.Ordering.{HomeIs, judgedFree, judged, blockChanged, seenBelow, grants}
-use Rattle.engine.proofs.View.{formed-words, view-block, view-cell, waiting-is, pooled-is, cards-of, waiting-of, pooled-of}
+use Rattle.engine.proofs.View.{formed-words, view-block, view-cell, waiting-is, cards-of, waiting-of, pooled-of}
 use Rattle.engine.proofs.Changes.{home-words, last-words}
-use Rattle.engine.proofs.Does.{Refuses, refused, done, wf, sizes, line-room, pool-room}
+use Rattle.engine.proofs.Does.{Refuses, refused, done, sizes}
 use Rattle.engine.proofs.Keeps.{owner-moves, reader-moves}
 use Rattle.engine.proofs.Judging.{head-is, head-wf, head-block, home-is, owner-is, asker-is, block-wf}
-use Rattle.engine.proofs.Seeing.{Seen, withBlocks, replace-twice}
+use Rattle.engine.proofs.Seeing.{Seen, withBlocks}
 
 -- What was decided, and the rules' reasons
 

@@ -12,7 +12,7 @@ use lib.Dec.{eqb, ltb}
 use lib.Pow.{shl-exact}
 use lib.Bits.{bitAnd, bitXor}
 use borrow.Author.Tests.{eq-eqb, ne-eqb, lt-ltb, le-ltb, ltb-true, ltb-false, lt-leb, le-leb}
-use Rattle.rules.specs.Lists.{replace, removed, keep, All}
+use Rattle.rules.specs.Lists.{removed, keep, All}
 use Rattle.rules.specs.Masks.{only, without}
 use Rattle.rules.specs.Numbers.{mostCards, mostBlocks, home, room}
 use Rattle.rules.specs.Chassis.{Block, Chassis, idle, freshBlock}
@@ -23,7 +23,7 @@ use Rattle.rules.specs.declared.kinds.Answer.the-variants.{Done, Refused}
 use Rattle.rules.specs.declared.kinds.Refusal.the-variants.{NoSuchCard}
 use Rattle.rules.specs.declared.kinds.Event.the-variants.{Rejoin}
 use Rattle.rules.proofs.Tests.{test}
-use Rattle.rules.proofs.Lists.{replace-cases, replace-same, All-map, All-removed, All-at, removed-short}
+use Rattle.rules.proofs.Lists.{replace-cases, replace-same, All-map, All-removed, All-at, removed-short, replace-twice}
 use Rattle.rules.proofs.Formed.{unused-idle, unused→, request→}
 use Rattle.engine.specs.declared.words.Home.{Home}
 use Rattle.engine.specs.Layout.{placeWords, blockAt, lineAt}
@@ -67,11 +67,6 @@ home-left h k x k< e =
 
 -- A block
 
--- of two that are put in one place the later stands
-replace-again : {A : Type 0} (f : ℕ → A) (i : ℕ) (x y : A) → replace (replace f i x) i y ≡ replace f i y
-unfolding replace
-replace-again f i x y = fun-ext (λ j. test (eqb i j) (λ e. rw e) (λ e. rw e))
-
 module _ (c : Chassis) (w : List ℕ) (e : w ≡ words c) (b : ℕ) (b< : b < mostBlocks) (f : HomeFits (c .block b)) where
   -- the block
   abbrev B : Block
@@ -101,7 +96,7 @@ module _ (c : Chassis) (w : List ℕ) (e : w ≡ words c) (b : ℕ) (b< : b < mo
       let c₁ = homeChanged c b (g .memory) (g .owner) (g .sharers) in
       let one : w₁ ≡ words c₁ = e₁ ∙ ap (λ (x : Home). putHome w b (x .memory) (x .owner) (x .sharers)) is
       ∙ home-words c w e b (g .memory) (g .owner) (g .sharers) b< in
-      e₂ ∙ cell-words c₁ w₁ one k b idle k< b< ∙ rw (replace-same, replace-again)
+      e₂ ∙ cell-words c₁ w₁ one k b idle k< b< ∙ rw (replace-same, replace-twice)
 
 -- The blocks that are there
 

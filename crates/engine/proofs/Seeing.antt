@@ -1,24 +1,19 @@
--- The cards' parts of a turn: what is known in an arm of a match on the turn, and the cards that see a request one after another.
+-- The cards' parts of a turn: the cards see a request one after another.
 use Prim.Native.Nat.{ℕ, _+_, _<_}
 use native.Mathlib.Omega.{arith}
 use mathlib.Core.Bool.{cond}
-use mathlib.Core.List.{List, [], _∷_}
-use mathlib.Core.Path.{_≡_, refl, sym, _∙_, ap, subst, fun-ext}
-use mathlib.Core.Logic.{inl, inr}
-use lib.Dec.{eqb, ltb}
-use types.Run.{OneOf}
-use denote.Enum.Declared.{tagOf}
+use mathlib.Core.List.{List}
+use mathlib.Core.Path.{_≡_, sym, _∙_, ap, subst, fun-ext}
+use lib.Dec.{ltb}
 use borrow.Author.Tests.{lt-ltb, le-ltb, ltb-true, ltb-false}
-use borrow.Enum.Known.{ValuesAt, at, lives-at}
-use Rattle.rules.specs.Lists.{replace, All}
+use Rattle.rules.specs.Lists.{replace}
 use Rattle.rules.specs.Numbers.{mostCards, mostBlocks}
 use Rattle.rules.specs.Chassis.{Block, Chassis, cellOf, withCell}
 use Rattle.rules.specs.Order.{sees}
 use Rattle.rules.specs.declared.kinds.Cell.{Cell}
 use Rattle.rules.specs.declared.kinds.Request.{Request}
 use Rattle.rules.specs.declared.kinds.Turn.{Turn}
-use Rattle.rules.proofs.kinds.Turn.{enum, the-type}
-use Rattle.rules.proofs.Lists.{replace-cases, replace-same}
+use Rattle.rules.proofs.Lists.{replace-cases, replace-same, replace-own, replace-twice}
 use Rattle.rules.proofs.Tests.{test}
 use Rattle.engine.specs.Words.{words, cardsOf, cellAt}
 use Rattle.engine.specs.Parts.{CellFits, putCell}
@@ -26,27 +21,6 @@ use Rattle.engine.specs.Ordering.{blockChanged, seenBelow}
 use Rattle.engine.proofs.Image.{words-image}
 use Rattle.engine.proofs.View.{cards-of, cell-again}
 use Rattle.engine.proofs.Changes.{cell-words}
-
--- in an arm of a match on a turn: what holds of each of the arm's variants holds of the turn
-module _ (P : Turn → Type 0) (t : Turn) where
-  is : (k : ℕ) → tagOf the-type t ≡ k → ((v : ValuesAt (enum .parts) k) → P (at enum k v)) → P t
-  is k e h = let l = lives-at enum t k e in subst P (sym (l .1)) (h (l .0))
-
-  pub arm : (ks : List ℕ) → OneOf ks (tagOf the-type t) → All (λ k. (v : ValuesAt (enum .parts) k) → P (at enum k v)) ks → P t
-  arm [] e h = absurd e
-  arm (k ∷ []) e h = is k e (h .0)
-  arm (k ∷ (j ∷ ks)) (inl e) h = is k e (h .0)
-  arm (k ∷ (j ∷ ks)) (inr e) h = arm (j ∷ ks) e (h .1)
-
--- Places of a function
-
-module _ {A : Type 0} (f : ℕ → A) (i : ℕ) where
-  replace-own : replace f i (f i) ≡ f
-  replace-own = fun-ext (λ j. replace-cases (λ y. y ≡ f j) f i (f i) j (λ e. ap f e) (λ _. refl))
-
-  pub replace-twice : (x y : A) → replace (replace f i x) i y ≡ replace f i y
-  unfolding replace
-  replace-twice x y = fun-ext (λ j. test (eqb i j) (λ e. rw e) (λ e. rw e))
 
 -- what is f below m and g from there on: for m = 0 it is g, and f's own at m makes it so for m + 1
 module _ {A : Type 0} (f g : ℕ → A) where

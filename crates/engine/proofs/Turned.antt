@@ -11,12 +11,11 @@ use lib.Dec.{eqb}
 use lib.ListN.{length, getD}
 use denote.Enum.Declared.{tagOf}
 use types.Run.{OneOf}
-use borrow.Author.Tests.{eq-eqb, ne-eqb, le-leb, lt-leb, ltb-true}
+use borrow.Author.Tests.{eq-eqb, ne-eqb, le-leb, lt-leb}
 use Rattle.rules.specs.Lists.{removed, All}
 use Rattle.rules.specs.Masks.{only, every, union}
-use Rattle.rules.specs.Numbers.{mostCards, home, room, lastRetry}
+use Rattle.rules.specs.Numbers.{home, room, lastRetry}
 use Rattle.rules.specs.Chassis.{Block, Chassis, poolChanged}
-use Rattle.rules.specs.Formed.{homeOrCard}
 use Rattle.rules.specs.Order.{given, memoryAfter, ownerAfter, sharersAfter, dataFor, sent, retryMask, retried, again}
 use Rattle.rules.specs.declared.kinds.Cell.{Cell}
 use Rattle.rules.specs.declared.kinds.Request.{Request}
@@ -62,11 +61,6 @@ by-number P t (n ∷ m ∷ ns) (inl e) h = subst P (ap (λ i. getD turns i GetsG
 by-number P t (n ∷ m ∷ ns) (inr k) h = by-number P t (m ∷ ns) k (h .1)
 
 -- Home's part
-
--- an owner that is not home is a card
-pub owner-card : (k : ℕ) → homeOrCard mostCards k ≡ true → k ≢ home → k < mostCards
-unfolding homeOrCard
-owner-card k h n = ltb-true k mostCards (rw (ne-eqb k home n) at h)
 
 module _ (B : Block) (h : Home) (is : HomeIs B h) where
   at-home : h .owner ≡ home → eqb (B .owner) home ≡ true

@@ -1,7 +1,6 @@
 -- What the inner functions of Order do. No public promise cites this.
-use Prim.Native.Nat.{ℕ, suc}
+use Prim.Native.Nat.{ℕ}
 use mathlib.Core.Bool.{Bool, true, false, cond, _||_}
-use mathlib.Core.List.{List, [], _∷_}
 use mathlib.Core.Path.{_≡_}
 use lib.Dec.{eqb, leb, ltb}
 use Rattle.rules.specs.Tests.{_⇒_, all}
@@ -9,7 +8,6 @@ use Rattle.rules.specs.Masks.{has}
 use Rattle.rules.specs.Numbers.{lastNumber}
 use Rattle.rules.specs.Chassis.{Block, Chassis, changed}
 use Rattle.rules.specs.Order.{held, impossible, noRoomFor, turn, sees}
-use Rattle.rules.specs.declared.kinds.Cell.{Cell}
 use Rattle.rules.specs.declared.kinds.Request.{Request}
 use Rattle.rules.specs.declared.kinds.Turn.{Turn}
 use Rattle.rules.specs.declared.kinds.Turn.the-variants.{

@@ -3,7 +3,7 @@ use Prim.Native.Nat.{ℕ, zero, suc, _≤_, _<_}
 use native.Mathlib.Omega.{arith}
 use mathlib.Core.Bool.{Bool, true}
 use mathlib.Core.List.{List, [], _∷_, _++_, map, List·Memᴰ, List·Memᴰ·head, List·Memᴰ·tail}
-use mathlib.Core.Path.{_≡_, refl}
+use mathlib.Core.Path.{_≡_, refl, ap, fun-ext}
 use mathlib.Core.Logic.{_≢_}
 use lib.ListN.{length, getD}
 use lib.Dec.{eqb}
@@ -19,6 +19,15 @@ module _ {A : Type 0} where
   pub replace-same : (f : ℕ → A) (i : ℕ) (x : A) → replace f i x i ≡ x
   unfolding replace
   replace-same f i x = rw (eq-eqb i i refl)
+
+  -- what is there already, put in its place
+  pub replace-own : (f : ℕ → A) (i : ℕ) → replace f i (f i) ≡ f
+  replace-own f i = fun-ext (λ j. replace-cases (λ y. y ≡ f j) f i (f i) j (λ e. ap f e) (λ _. refl))
+
+  -- of two that are put in one place the later stands
+  pub replace-twice : (f : ℕ → A) (i : ℕ) (x y : A) → replace (replace f i x) i y ≡ replace f i y
+  unfolding replace
+  replace-twice f i x y = fun-ext (λ j. test (eqb i j) (λ e. rw e) (λ e. rw e))
 
   pub All-map : {P Q : A → Type 0} → ((x : A) → P x → Q x) → (xs : List A) → All P xs → All Q xs
   All-map f [] h = tt

@@ -1,7 +1,7 @@
 -- `ask::ask_from` ends in one of the ways of an ask.
 use borrow.Author.Needs.{needs}
 use native.Mathlib.Omega.{arith}
-use mathlib.Core.Path.{refl, sym, _∙_, ap}
+use mathlib.Core.Path.{sym, _∙_, ap}
 use Rattle.rules.specs.Masks.{every}
 use Rattle.rules.specs.Chassis.{goes}
 use Rattle.engine.specs.Parts.{putCell}

@@ -9,7 +9,7 @@ use Rattle.rules.specs.Order.{held}
 use Rattle.rules.specs.declared.kinds.Cell.{Cell}
 use Rattle.engine.specs.Words.{view}
 use Rattle.engine.proofs.View.{view-cell}
-use Rattle.engine.proofs.Judging.{some-none, some-more, some-done}
+use Rattle.engine.proofs.Checks.{some-none, some-more, some-done}
 use Rattle.engine.proofs.judge.held.Statement.{statement}
 use Rattle.engine.proofs.judge.held.Tie as tie
 
@@ -43,7 +43,7 @@ loop-less c = search needs
 loop-again : tie.Need-loop-again Inv-loop μ-loop
 loop-again c = (
   search needs,
-  some-more _ _ _ _ (c .before .before .before .loop .inv .1) (c .waits .ensures ∙ ap (λ (x : Cell). waits (x .state))
+  some-more _ _ _ (c .before .before .before .loop .inv .1) _ (c .waits .ensures ∙ ap (λ (x : Cell). waits (x .state))
       (c .before .cell-at .ensures ∙ sym (view-cell _ _ _ (omega arith) (omega arith)))),
 )
 

@@ -1,6 +1,4 @@
 -- `judge::owner_cell`: home has no cell, and a chassis has an idle one in its place.
-use borrow.Author.Needs.{needs}
-use native.Mathlib.Omega.{arith}
 use mathlib.Core.Path.{sym, _∙_}
 use Rattle.engine.proofs.Judging.{home-cell, owner-card}
 use Rattle.engine.proofs.View.{view-cell}

@@ -1,5 +1,4 @@
 -- `mask::owner_named`: home needs no name.
-use borrow.Author.Needs.{needs}
 use borrow.Author.Tests.{eq-eqb, ne-eqb}
 use Rattle.engine.proofs.Judging.{owner-card}
 use Rattle.engine.proofs.mask.owner_named.Statement.{statement}

@@ -1,7 +1,7 @@
 -- `order::take_turn`: what each part asks for holds, and the parts together are the rules' turn.
 use borrow.Author.Needs.{needs}
 use native.Mathlib.Omega.{arith}
-use mathlib.Core.Path.{ap, _∙_}
+use mathlib.Core.Path.{ap}
 use Prim.Native.Nat.{_+_}
 use Rattle.engine.proofs.Does.{sizes, line-room}
 use Rattle.engine.proofs.Judging.{head-wf, head-card, head-block, owner-there}

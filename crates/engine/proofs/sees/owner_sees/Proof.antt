@@ -4,7 +4,7 @@ use mathlib.Core.List.{[], _∷_}
 use mathlib.Core.Path.{_≡_, refl, _∙_, ap}
 use Rattle.rules.specs.Chassis.{goes}
 use Rattle.rules.specs.Order.{ownerSees}
-use Rattle.engine.proofs.Seeing.{arm}
+use Rattle.engine.proofs.Turned.{by-number}
 use Rattle.engine.proofs.sees.owner_sees.Statement.{statement}
 use Rattle.engine.proofs.sees.owner_sees.Tie as tie
 
@@ -31,21 +31,21 @@ unfolding ownerSees
 returns c =
     let a = c .before .before .before .before .args in
     let e = c .goes-for .ensures ∙ ap (λ s. goes s (a .cell)) (c .before .sees-gets .ensures) in
-    arm (λ t. c .goes-for .result ≡ ownerSees t (a .cell)) (a .turn) (0 ∷ []) (c .before .before .before .match .keys1) ((λ _. e), tt)
+    by-number (λ t. c .goes-for .result ≡ ownerSees t (a .cell)) (a .turn) (0 ∷ []) (c .before .before .before .match .keys1) (e, tt)
 
 returns-2 : tie.Need-returns-2
 unfolding ownerSees
 returns-2 c =
     let a = c .before .before .before .before .args in
     let e = c .goes-for2 .ensures ∙ ap (λ s. goes s (a .cell)) (c .before .sees-getx .ensures) in
-    arm (λ t. c .goes-for2 .result ≡ ownerSees t (a .cell)) (a .turn) (1 ∷ []) (c .before .before .before .match .keys2) ((λ _. e), tt)
+    by-number (λ t. c .goes-for2 .result ≡ ownerSees t (a .cell)) (a .turn) (1 ∷ []) (c .before .before .before .match .keys2) (e, tt)
 
 returns-3 : tie.Need-returns-3
 unfolding ownerSees
 returns-3 c =
     let a = c .before .args in
-    arm (λ t. a .cell ≡ ownerSees t (a .cell)) (a .turn) (2 ∷ 3 ∷ 4 ∷ 5 ∷ []) (c .match .keys3)
-    ((λ _. refl), ((λ _. refl), ((λ _. refl), ((λ _. refl), tt))))
+    by-number (λ t. a .cell ≡ ownerSees t (a .cell)) (a .turn) (2 ∷ 3 ∷ 4 ∷ 5 ∷ []) (c .match .keys3)
+    (refl, (refl, (refl, (refl, tt))))
 
 pub owner-sees-spec : {M : Type 1} → statement M
 owner-sees-spec =

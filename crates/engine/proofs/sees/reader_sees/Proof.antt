@@ -4,7 +4,7 @@ use mathlib.Core.List.{[], _∷_}
 use mathlib.Core.Path.{_≡_, refl, sym, _∙_, ap}
 use Rattle.rules.specs.Chassis.{goes}
 use Rattle.rules.specs.Order.{readerSees}
-use Rattle.engine.proofs.Seeing.{arm}
+use Rattle.engine.proofs.Turned.{by-number}
 use Rattle.engine.proofs.sees.reader_sees.Statement.{statement}
 use Rattle.engine.proofs.sees.reader_sees.Tie as tie
 
@@ -23,22 +23,22 @@ returns c =
     let a = c .before .before .before .before .before .args in
     let e = c .goes-for .ensures ∙ ap (λ s. goes s (a .cell)) (c .before .sees-getx .ensures) in
     let is = sym (c .before .before .before .is-reader .ensures) ∙ c .before .before .if1 .taken in
-    arm (λ t. c .goes-for .result ≡ readerSees t (a .cell)) (a .turn) (1 ∷ 3 ∷ []) (c .before .before .before .before .match .keys1)
-    ((λ _. rw is e), ((λ _. rw is e), tt))
+    by-number (λ t. c .goes-for .result ≡ readerSees t (a .cell)) (a .turn) (1 ∷ 3 ∷ []) (c .before .before .before .before .match .keys1)
+    (rw is e, (rw is e, tt))
 
 returns-2 : tie.Need-returns-2
 unfolding readerSees
 returns-2 c =
     let a = c .before .before .before .args in
     let not = sym (c .before .is-reader .ensures) ∙ c .if1 .left in
-    arm (λ t. a .cell ≡ readerSees t (a .cell)) (a .turn) (1 ∷ 3 ∷ []) (c .before .before .match .keys1) ((λ _. rw not), ((λ _. rw not), tt))
+    by-number (λ t. a .cell ≡ readerSees t (a .cell)) (a .turn) (1 ∷ 3 ∷ []) (c .before .before .match .keys1) (rw not, (rw not, tt))
 
 returns-3 : tie.Need-returns-3
 unfolding readerSees
 returns-3 c =
     let a = c .before .args in
-    arm (λ t. a .cell ≡ readerSees t (a .cell)) (a .turn) (0 ∷ 2 ∷ 4 ∷ 5 ∷ []) (c .match .keys2)
-    ((λ _. refl), ((λ _. refl), ((λ _. refl), ((λ _. refl), tt))))
+    by-number (λ t. a .cell ≡ readerSees t (a .cell)) (a .turn) (0 ∷ 2 ∷ 4 ∷ 5 ∷ []) (c .match .keys2)
+    (refl, (refl, (refl, (refl, tt))))
 
 pub reader-sees-spec : {M : Type 1} → statement M
 reader-sees-spec =

@@ -1,7 +1,8 @@
 -- `turns::retry_mask`: the mask by the retry, and by who owns.
 use borrow.Author.Needs.{needs}
 use native.Mathlib.Omega.{arith}
-use Rattle.engine.proofs.Turned.{owner-card, mask-last, mask-home, mask-card}
+use Rattle.engine.proofs.Judging.{owner-card}
+use Rattle.engine.proofs.Turned.{mask-last, mask-home, mask-card}
 use Rattle.engine.proofs.turns.retry_mask.Statement.{statement}
 use Rattle.engine.proofs.turns.retry_mask.Tie as tie
 
@@ -9,7 +10,7 @@ every-requires : tie.Need-every-requires
 every-requires c κs = search needs
 
 only-requires : tie.Need-only-requires
-only-requires c κs = owner-card _ (c .before .before .before .pre .1) (c .if2 .left)
+only-requires c κs = owner-card _ (c .if2 .left) (c .before .before .before .pre .1)
 
 returns : tie.Need-returns
 returns c = λ B is. mask-last B _ is _ _ _ (omega arith) (c .every .ensures)

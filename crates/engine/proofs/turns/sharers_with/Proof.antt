@@ -1,6 +1,7 @@
 -- `turns::sharers_with`: the asker joins those that stay.
 use borrow.Author.Needs.{needs}
-use Rattle.engine.proofs.Turned.{owner-card, join-home, join-card}
+use Rattle.engine.proofs.Judging.{owner-card}
+use Rattle.engine.proofs.Turned.{join-home, join-card}
 use Rattle.engine.proofs.turns.sharers_with.Statement.{statement}
 use Rattle.engine.proofs.turns.sharers_with.Tie as tie
 
@@ -8,7 +9,7 @@ only-requires : tie.Need-only-requires
 only-requires c κs = search needs
 
 only-requires-2 : tie.Need-only-requires-2
-only-requires-2 c κs = owner-card _ (c .before .before .pre .1) (c .if1 .left)
+only-requires-2 c κs = owner-card _ (c .if1 .left) (c .before .before .pre .1)
 
 only-requires-3 : tie.Need-only-requires-3
 only-requires-3 c κs = search needs
