@@ -114,5 +114,6 @@ module _ (w : List ℕ) (f : formed w ≡ true) (k b kind mask : ℕ) (x : Cell)
             done w f (Ask k b kind mask) (Done 0) w₂
             (t .card, (t .block, (good, (there, (may-ask, (lt-leb room (length (view w .line)) (omega (arith, waiting-is w)), tt)))))) refl
             (g c₁ (e ∙ cell-words (view w) w (formed-words w f) k b y (t .card<) (t .block<))
-            ∙ ap (λ (z : Cell). words (lineChanged (cellChanged (view w) k b (goes (asked kind (z .state)) z)) (view w .line ++ request k b kind mask ∷ [])))
+            ∙ ap (λ (z : Cell). words (lineChanged (cellChanged (view w) k b (goes (asked kind (z .state)) z))
+            (view w .line ++ request k b kind mask ∷ [])))
             (sym (t .cell)))

@@ -27,7 +27,21 @@ use Rattle.rules.proofs.Tests.{or-i}
 use Rattle.rules.proofs.Lists.{All-at}
 use Rattle.rules.proofs.Formed.{RequestWf, request→, BlockWf}
 use Rattle.engine.proofs.Does.{wf, sizes}
-use Rattle.engine.specs.Words.{view, blockOf, cardsOf, waitingOf, pooledOf, lastOf, noRequest, cellAt, requestAt, memoryAt, ownerAt, sharersAt, formed}
+use Rattle.engine.specs.Words.{
+  view,
+  blockOf,
+  cardsOf,
+  waitingOf,
+  pooledOf,
+  lastOf,
+  noRequest,
+  cellAt,
+  requestAt,
+  memoryAt,
+  ownerAt,
+  sharersAt,
+  formed,
+}
 use Rattle.engine.specs.Ordering.{HomeIs, sharersNamed, judgedFree, judged}
 use Rattle.engine.proofs.View.{view-block, view-cell, view-request, waiting-is, pooled-is}
 
@@ -165,7 +179,8 @@ module _ (w : List ℕ) (f : formed w ≡ true) (some : 0 < waitingOf w) (r : Re
   module _ (h : Home) (is : (h .memory ≡ memoryAt w (r .block)) × (h .owner ≡ ownerAt w (r .block)) × (h .sharers ≡ sharersAt w (r .block)))
       (x : Cell) (ex : x ≡ cellAt w (r .card) (r .block))
       (y : Cell) (ey : y ≡ view w .block (r .block) .cell (h .owner))
-      (i : Bool) (ei : (B : Block) → HomeIs B h → B .cell (r .card) .state ≡ x .state → B .cell (B .owner) .state ≡ y .state → i ≡ impossible B r) where
+      (i : Bool) (ei : (B : Block) → HomeIs B h → B .cell (r .card) .state ≡ x .state
+      → B .cell (B .owner) .state ≡ y .state → i ≡ impossible B r) where
     asker-state : view w .block (r .block) .cell (r .card) .state ≡ x .state
     asker-state = ap (λ (z : Cell). z .state) (asker-is x ex)
 

@@ -16,11 +16,18 @@ enum-known-cell : tie.Need-enum-known-cell
 enum-known-cell c = search needs
 
 ask-from-requires : tie.Need-ask-from-requires
-ask-from-requires c κs = (c .before .before .before .before .before .before .pre, sym (c .before .before .cell .given .1) ∙ c .before .before .before .before .find .ensures)
+ask-from-requires c κs =
+    let c₂ = c .before .before in
+    let c₄ = c₂ .before .before in
+    let c₆ = c₄ .before .before in
+    (c₆ .pre, sym (c₂ .cell .given .1) ∙ c₄ .find .ensures)
 
 returns : tie.Need-returns
 unfolding reasons
-returns c = missing _ (c .before .before .before .before .before .pre) _ _ _ _ _ refl (sym (c .before .refusal .given .1) ∙ c .before .before .before .find .ensures)
+returns c =
+    let c₃ = c .before .before .before in
+    let c₅ = c₃ .before .before in
+    missing _ (c₅ .pre) _ _ _ _ _ refl (sym (c .before .refusal .given .1) ∙ c₃ .find .ensures)
 
 returns-2 : tie.Need-returns-2
 returns-2 c = c .ask-from .ensures

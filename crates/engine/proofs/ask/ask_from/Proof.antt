@@ -22,18 +22,26 @@ every-requires c κs = omega (arith, sizes _ (c .before .before .before .pre .0)
 
 returns-2 : tie.Need-returns-2
 returns-2 c =
-    let p = c .before .before .before .before .before .pre in
-    let e = c .before .every .ensures ∙ ap every (c .before .before .cards .ensures) in
-    stranger _ (p .0) _ _ _ _ _ (p .1) (sym (kind-test (c .before .before .before .before .before .args .kind)) ∙ c .before .before .before .before .if1 .left) (let h = c .if2 .taken in omega arith)
+    let c₂ = c .before .before in
+    let c₄ = c₂ .before .before in
+    let c₅ = c₄ .before in
+    let p = c₅ .pre in
+    let e = c .before .every .ensures ∙ ap every (c₂ .cards .ensures) in
+    stranger _ (p .0) _ _ _ _ _ (p .1) (sym (kind-test (c₅ .args .kind)) ∙ c₄ .if1 .left) (let h = c .if2 .taken in omega arith)
 
 asked-requires : tie.Need-asked-requires
 asked-requires c κs = search needs
 
 returns-3 : tie.Need-returns-3
 returns-3 c =
-    let p = c .before .before .before .before .before .before .before .pre in
-    not-allowed _ (p .0) _ _ _ _ _ (p .1) (sym (kind-test (c .before .before .before .before .before .before .before .args .kind)) ∙ c .before .before .before .before .before .before .if1 .left)
-    (let e = c .before .before .before .every .ensures ∙ ap every (c .before .before .before .before .cards .ensures) in let h = c .before .before .if2 .left in omega arith)
+    let c₂ = c .before .before in
+    let c₃ = c₂ .before in
+    let c₄ = c₃ .before in
+    let c₆ = c₄ .before .before in
+    let c₇ = c₆ .before in
+    let p = c₇ .pre in
+    not-allowed _ (p .0) _ _ _ _ _ (p .1) (sym (kind-test (c₇ .args .kind)) ∙ c₆ .if1 .left)
+    (let e = c₃ .every .ensures ∙ ap every (c₄ .cards .ensures) in let h = c₂ .if2 .left in omega arith)
     (sym (c .before .asked .ensures) ∙ c .if3 .taken)
 
 waiting-requires : tie.Need-waiting-requires
@@ -41,30 +49,51 @@ waiting-requires c κs = search needs
 
 returns-4 : tie.Need-returns-4
 returns-4 c =
-    let p = c .before .before .before .before .before .before .before .before .before .before .pre in
-    line-full _ (p .0) _ _ _ _ _ (p .1) (sym (kind-test (c .before .before .before .before .before .before .before .before .before .before .args .kind)) ∙ c .before .before .before .before .before .before .before .before .before .if1 .left)
-    (let e = c .before .before .before .before .before .before .every .ensures ∙ ap every (c .before .before .before .before .before .before .before .cards .ensures) in let h = c .before .before .before .before .before .if2 .left in omega arith)
-    (λ e. c .before .before .before .if3 .left (c .before .before .before .before .asked .ensures ∙ e)) (omega arith)
+    let c₃ = c .before .before .before in
+    let c₄ = c₃ .before in
+    let c₅ = c₄ .before in
+    let c₆ = c₅ .before in
+    let c₇ = c₆ .before in
+    let c₉ = c₇ .before .before in
+    let c₁₀ = c₉ .before in
+    let p = c₁₀ .pre in
+    line-full _ (p .0) _ _ _ _ _ (p .1) (sym (kind-test (c₁₀ .args .kind)) ∙ c₉ .if1 .left)
+    (let e = c₆ .every .ensures ∙ ap every (c₇ .cards .ensures) in let h = c₅ .if2 .left in omega arith)
+    (λ e. c₃ .if3 .left (c₄ .asked .ensures ∙ e)) (omega arith)
 
 goes-for-requires : tie.Need-goes-for-requires
 goes-for-requires c κs = search needs
 
 put-cell-requires : tie.Need-put-cell-requires
-put-cell-requires c κs = let t = known _ (c .before .before .before .before .before .before .before .before .before .before .before .before .pre .0) _ _ _ (c .before .before .before .before .before .before .before .before .before .before .before .before .pre .1) in (t .card<, t .block<)
+put-cell-requires c κs =
+    let c₁₂ = c .before .before .before .before .before .before .before .before .before .before .before .before in
+    let t = known _ (c₁₂ .pre .0) _ _ _ (c₁₂ .pre .1) in (t .card<, t .block<)
 
 push-request-requires : tie.Need-push-request-requires
 push-request-requires c κs =
-    let same = cell-waiting _ (c .before .before .before .before .before .before .before .before .before .before .before .before .before .before .pre .0) _ _ _ _ (c .before .before .before .before .before .before .before .before .before .before .before .before .before .before .pre .1) _ (c .before .put-cell .ensures) in omega arith
+    let c₁₄ = c .before .before .before .before .before .before .before .before .before .before .before .before .before .before in
+    let same = cell-waiting _ (c₁₄ .pre .0) _ _ _ _ (c₁₄ .pre .1) _ (c .before .put-cell .ensures) in omega arith
 
 returns-5 : tie.Need-returns-5
 returns-5 c =
-    let p = c .before .before .before .before .before .before .before .before .before .before .before .before .before .before .before .pre in
-    let a = c .before .before .before .before .before .before .before .before .before .before .before .before .before .before .before .args in
-    ask-done _ (p .0) _ _ _ _ _ (p .1) (sym (kind-test (c .before .before .before .before .before .before .before .before .before .before .before .before .before .before .before .args .kind)) ∙ c .before .before .before .before .before .before .before .before .before .before .before .before .before .before .if1 .left)
-    (let e = c .before .before .before .before .before .before .before .before .before .before .before .every .ensures ∙ ap every (c .before .before .before .before .before .before .before .before .before .before .before .before .cards .ensures) in let h = c .before .before .before .before .before .before .before .before .before .before .if2 .left in omega arith)
-    (λ e. c .before .before .before .before .before .before .before .before .if3 .left (c .before .before .before .before .before .before .before .before .before .asked .ensures ∙ e)) (omega arith) _ _
-    (c .before .before .put-cell .ensures ∙ ap (putCell (a .s .now) (a .card) (a .block))
-    (c .before .before .before .goes-for .ensures ∙ ap (λ s. goes s (a .cell)) (c .before .before .before .before .before .before .before .before .before .asked .ensures))) (c .push-request .ensures)
+    let c₂ = c .before .before in
+    let c₃ = c₂ .before in
+    let c₅ = c₃ .before .before in
+    let c₆ = c₅ .before in
+    let c₈ = c₆ .before .before in
+    let c₉ = c₈ .before in
+    let c₁₀ = c₉ .before in
+    let c₁₁ = c₁₀ .before in
+    let c₁₂ = c₁₁ .before in
+    let c₁₄ = c₁₂ .before .before in
+    let c₁₅ = c₁₄ .before in
+    let p = c₁₅ .pre in
+    let a = c₁₅ .args in
+    ask-done _ (p .0) _ _ _ _ _ (p .1) (sym (kind-test (c₁₅ .args .kind)) ∙ c₁₄ .if1 .left)
+    (let e = c₁₁ .every .ensures ∙ ap every (c₁₂ .cards .ensures) in let h = c₁₀ .if2 .left in omega arith)
+    (λ e. c₈ .if3 .left (c₉ .asked .ensures ∙ e)) (let e = c₆ .waiting .ensures in let h = c₅ .if4 .left in omega arith) _ _
+    (c₂ .put-cell .ensures ∙ ap (putCell (a .s .now) (a .card) (a .block))
+    (c₃ .goes-for .ensures ∙ ap (λ s. goes s (a .cell)) (c₉ .asked .ensures))) (c .push-request .ensures)
 
 pub ask-from-spec : {M : Type 1} → statement M
 ask-from-spec =

@@ -22,23 +22,39 @@ drops-requires c κs = search needs
 
 returns : tie.Need-returns
 unfolding reasons
-returns c = no-right _ (c .before .before .before .before .before .before .before .pre) _ _ _ drops refl _
-    (sym (c .before .before .before .cell .given .1) ∙ c .before .before .before .before .before .find .ensures)
+returns c =
+    let c₃ = c .before .before .before in
+    let c₅ = c₃ .before .before in
+    let c₇ = c₅ .before .before in
+    no-right _ (c₇ .pre) _ _ _ drops refl _
+    (sym (c₃ .cell .given .1) ∙ c₅ .find .ensures)
     (sym (c .before .drops .ensures) ∙ not-true _ (c .if1 .taken))
 
 put-cell-requires : tie.Need-put-cell-requires
 put-cell-requires c κs =
-    let t = known _ (c .before .before .before .before .before .before .before .before .pre) _ _ _ (sym (c .before .before .before .before .cell .given .1) ∙ c .before .before .before .before .before .before .find .ensures) in
+    let c₄ = c .before .before .before .before in
+    let c₆ = c₄ .before .before in
+    let c₈ = c₆ .before .before in
+    let t = known _ (c₈ .pre) _ _ _ (sym (c₄ .cell .given .1) ∙ c₆ .find .ensures) in
     (t .card<, t .block<)
 
 returns-2 : tie.Need-returns-2
 unfolding reasons rightReasons
-returns-2 c = missing _ (c .before .before .before .before .before .pre) _ _ _ _ _ refl (sym (c .before .refusal .given .1) ∙ c .before .before .before .find .ensures)
+returns-2 c =
+    let c₃ = c .before .before .before in
+    let c₅ = c₃ .before .before in
+    missing _ (c₅ .pre) _ _ _ _ _ refl (sym (c .before .refusal .given .1) ∙ c₃ .find .ensures)
 
 returns-3 : tie.Need-returns-3
-returns-3 c = drop-done _ (c .before .before .before .before .before .before .before .before .before .pre) _ _ _
-    (sym (c .before .before .before .before .before .cell .given .1) ∙ c .before .before .before .before .before .before .before .find .ensures)
-    (sym (c .before .before .before .drops .ensures) ∙ not-false _ (c .before .before .if1 .left)) _ (c .put-cell .ensures)
+returns-3 c =
+    let c₂ = c .before .before in
+    let c₃ = c₂ .before in
+    let c₅ = c₃ .before .before in
+    let c₇ = c₅ .before .before in
+    let c₉ = c₇ .before .before in
+    drop-done _ (c₉ .pre) _ _ _
+    (sym (c₅ .cell .given .1) ∙ c₇ .find .ensures)
+    (sym (c₃ .drops .ensures) ∙ not-false _ (c₂ .if1 .left)) _ (c .put-cell .ensures)
 
 pub drop-spec : {M : Type 1} → statement M
 drop-spec =

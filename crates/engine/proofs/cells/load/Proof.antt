@@ -21,17 +21,28 @@ loads-requires c κs = search needs
 
 returns : tie.Need-returns
 unfolding reasons rightReasons
-returns c = missing _ (c .before .before .before .before .pre) _ _ _ _ _ refl (sym (c .before .refusal .given .1) ∙ c .before .before .before .find .ensures)
+returns c =
+    let c₃ = c .before .before .before in
+    let c₄ = c₃ .before in
+    missing _ (c₄ .pre) _ _ _ _ _ refl (sym (c .before .refusal .given .1) ∙ c₃ .find .ensures)
 
 returns-2 : tie.Need-returns-2
-returns-2 c = load-done _ (c .before .before .before .before .before .before .pre) _ _ _
-    (sym (c .before .before .before .cell .given .1) ∙ c .before .before .before .before .before .find .ensures)
+returns-2 c =
+    let c₃ = c .before .before .before in
+    let c₅ = c₃ .before .before in
+    let c₆ = c₅ .before in
+    load-done _ (c₆ .pre) _ _ _
+    (sym (c₃ .cell .given .1) ∙ c₅ .find .ensures)
     (sym (c .before .loads .ensures) ∙ c .if1 .taken)
 
 returns-3 : tie.Need-returns-3
 unfolding reasons
-returns-3 c = no-right _ (c .before .before .before .before .before .before .pre) _ _ _ loads refl _
-    (sym (c .before .before .before .cell .given .1) ∙ c .before .before .before .before .before .find .ensures)
+returns-3 c =
+    let c₃ = c .before .before .before in
+    let c₅ = c₃ .before .before in
+    let c₆ = c₅ .before in
+    no-right _ (c₆ .pre) _ _ _ loads refl _
+    (sym (c₃ .cell .given .1) ∙ c₅ .find .ensures)
     (sym (c .before .loads .ensures) ∙ c .if1 .left)
 
 pub load-spec : {M : Type 1} → statement M

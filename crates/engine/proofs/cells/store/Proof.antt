@@ -22,23 +22,39 @@ stores-requires c κs = search needs
 
 returns : tie.Need-returns
 unfolding reasons
-returns c = no-right _ (c .before .before .before .before .before .before .before .pre) _ _ _ stores refl _
-    (sym (c .before .before .before .cell .given .1) ∙ c .before .before .before .before .before .find .ensures)
+returns c =
+    let c₃ = c .before .before .before in
+    let c₅ = c₃ .before .before in
+    let c₇ = c₅ .before .before in
+    no-right _ (c₇ .pre) _ _ _ stores refl _
+    (sym (c₃ .cell .given .1) ∙ c₅ .find .ensures)
     (sym (c .before .stores .ensures) ∙ not-true _ (c .if1 .taken))
 
 put-cell-requires : tie.Need-put-cell-requires
 put-cell-requires c κs =
-    let t = known _ (c .before .before .before .before .before .before .before .before .before .pre) _ _ _ (sym (c .before .before .before .before .before .cell .given .1) ∙ c .before .before .before .before .before .before .before .find .ensures) in
+    let c₅ = c .before .before .before .before .before in
+    let c₇ = c₅ .before .before in
+    let c₉ = c₇ .before .before in
+    let t = known _ (c₉ .pre) _ _ _ (sym (c₅ .cell .given .1) ∙ c₇ .find .ensures) in
     (t .card<, t .block<)
 
 returns-2 : tie.Need-returns-2
 unfolding reasons rightReasons
-returns-2 c = missing _ (c .before .before .before .before .before .pre) _ _ _ _ _ refl (sym (c .before .refusal .given .1) ∙ c .before .before .before .find .ensures)
+returns-2 c =
+    let c₃ = c .before .before .before in
+    let c₅ = c₃ .before .before in
+    missing _ (c₅ .pre) _ _ _ _ _ refl (sym (c .before .refusal .given .1) ∙ c₃ .find .ensures)
 
 returns-3 : tie.Need-returns-3
-returns-3 c = store-done _ (c .before .before .before .before .before .before .before .before .before .before .pre) _ _ _
-    (sym (c .before .before .before .before .before .before .cell .given .1) ∙ c .before .before .before .before .before .before .before .before .find .ensures) _
-    (sym (c .before .before .before .before .stores .ensures) ∙ not-false _ (c .before .before .before .if1 .left)) _ (c .put-cell .ensures)
+returns-3 c =
+    let c₃ = c .before .before .before in
+    let c₄ = c₃ .before in
+    let c₆ = c₄ .before .before in
+    let c₈ = c₆ .before .before in
+    let c₁₀ = c₈ .before .before in
+    store-done _ (c₁₀ .pre) _ _ _
+    (sym (c₆ .cell .given .1) ∙ c₈ .find .ensures) _
+    (sym (c₄ .stores .ensures) ∙ not-false _ (c₃ .if1 .left)) _ (c .put-cell .ensures)
 
 pub store-spec : {M : Type 1} → statement M
 store-spec =

@@ -40,17 +40,23 @@ cells-formed-requires c κs = search needs
 
 returns : tie.Need-returns
 unfolding blockTest homeTest
-returns c = rw (
-  ← c .before .before .before .before .before .before .before .before .blocks2 .ensures,
-  lt-ltb _ _ (c .before .before .before .before .before .before .before .if1 .taken),
-  c .before .before .three-at .ensures,
-  c .before .ok-home .ensures,
-  c .cells-formed .ensures,
-  c .before .before .before .before .before .before .before .before .before .cards .ensures,
-  c .before .before .before .before .before .before .home-at .ensures .0,
-  c .before .before .before .before .before .before .home-at .ensures .1,
-  c .before .before .before .before .before .before .home-at .ensures .2,
-)
+returns c =
+    let c₂ = c .before .before in
+    let c₆ = c₂ .before .before .before .before in
+    let c₇ = c₆ .before in
+    let c₈ = c₇ .before in
+    let c₉ = c₈ .before in
+    rw (
+      ← c₈ .blocks2 .ensures,
+      lt-ltb _ _ (c₇ .if1 .taken),
+      c₂ .three-at .ensures,
+      c .before .ok-home .ensures,
+      c .cells-formed .ensures,
+      c₉ .cards .ensures,
+      c₆ .home-at .ensures .0,
+      c₆ .home-at .ensures .1,
+      c₆ .home-at .ensures .2,
+    )
 
 cast-three-at-4 : tie.Need-cast-three-at-4
 cast-three-at-4 c = search needs

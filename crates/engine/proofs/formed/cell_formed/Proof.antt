@@ -40,13 +40,17 @@ ok-cell-requires c κs = search needs
 
 returns : tie.Need-returns
 unfolding cellTest
-returns c = rw (
-  lt-ltb _ _ (c .before .before .before .before .before .before .before .if1 .taken),
-  c .before .before .three-at .ensures,
-  c .ok-cell .ensures,
-  c .before .last .ensures,
-  c .before .before .before .before .before .before .cell-at .ensures,
-)
+returns c =
+    let c₂ = c .before .before in
+    let c₆ = c₂ .before .before .before .before in
+    let c₇ = c₆ .before in
+    rw (
+      lt-ltb _ _ (c₇ .if1 .taken),
+      c₂ .three-at .ensures,
+      c .ok-cell .ensures,
+      c .before .last .ensures,
+      c₆ .cell-at .ensures,
+    )
 
 three-at-requires-2 : tie.Need-three-at-requires-2
 three-at-requires-2 c κs = search needs

@@ -21,13 +21,17 @@ pooled-requires c κs = search needs
 
 returns : tie.Need-returns
 unfolding headTest
-returns c = rw (
-  c .before .before .are-sizes .ensures,
-  c .before .before .before .before .cards .ensures,
-  c .before .before .before .blocks2 .ensures,
-  c .before .waiting .ensures,
-  c .pooled .ensures,
-)
+returns c =
+    let c₂ = c .before .before in
+    let c₃ = c₂ .before in
+    let c₄ = c₃ .before in
+    rw (
+      c₂ .are-sizes .ensures,
+      c₄ .cards .ensures,
+      c₃ .blocks2 .ensures,
+      c .before .waiting .ensures,
+      c .pooled .ensures,
+    )
 
 pub head-formed-spec : {M : Type 1} → statement M
 head-formed-spec =

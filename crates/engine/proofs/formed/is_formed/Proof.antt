@@ -22,9 +22,12 @@ pool-formed-requires c κs = search needs
 
 returns : tie.Need-returns
 returns c =
-    let tested = c .before .before .before .before in
-    is-formed _ _ _ _ (tested .before .sized .ensures) (sym (tested .head-formed .ensures) ∙ c .before .before .before .if1 .taken)
-    (c .before .before .blocks-formed .ensures) (c .before .line-formed .ensures) (c .pool-formed .ensures)
+    let c₂ = c .before .before in
+    let c₃ = c₂ .before in
+    let c₄ = c₃ .before in
+    let tested = c₄ in
+    is-formed _ _ _ _ (tested .before .sized .ensures) (sym (tested .head-formed .ensures) ∙ c₃ .if1 .taken)
+    (c₂ .blocks-formed .ensures) (c .before .line-formed .ensures) (c .pool-formed .ensures)
 
 returns-2 : tie.Need-returns-2
 returns-2 c = not-formed _ (c .before .before .sized .ensures) (sym (c .before .head-formed .ensures) ∙ c .if1 .left)

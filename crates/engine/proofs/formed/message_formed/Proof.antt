@@ -46,16 +46,23 @@ ok-message-requires c κs = search needs
 
 returns : tie.Need-returns
 unfolding messageTest
-returns c = rw (
-  ← c .before .before .before .before .before .before .before .before .before .before .before .before .pooled .ensures,
-  lt-ltb _ _ (c .before .before .before .before .before .before .before .before .before .before .before .if1 .taken),
-  c .before .before .before .before .five-at .ensures,
-  c .ok-message .ensures,
-  c .before .before .before .cards .ensures,
-  c .before .before .blocks2 .ensures,
-  c .before .last .ensures,
-  c .before .before .before .before .before .before .before .before .before .before .message-at .ensures,
-)
+returns c =
+    let c₂ = c .before .before in
+    let c₃ = c₂ .before in
+    let c₄ = c₃ .before in
+    let c₁₀ = c₄ .before .before .before .before .before .before in
+    let c₁₁ = c₁₀ .before in
+    let c₁₂ = c₁₁ .before in
+    rw (
+      ← c₁₂ .pooled .ensures,
+      lt-ltb _ _ (c₁₁ .if1 .taken),
+      c₄ .five-at .ensures,
+      c .ok-message .ensures,
+      c₃ .cards .ensures,
+      c₂ .blocks2 .ensures,
+      c .before .last .ensures,
+      c₁₀ .message-at .ensures,
+    )
 
 five-at-requires-2 : tie.Need-five-at-requires-2
 five-at-requires-2 c κs = search needs

@@ -20,7 +20,8 @@ cast-result-2 c = search needs
 
 sub-result : tie.Need-sub-result
 sub-result c =
-    let bound = c .before .before .before .before .before .before .before in
+    let c₇ = c .before .before .before .before .before .before .before in
+    let bound = c₇ in
     omega (arith, bound .mask-bound .ensures, pow-pos (bound .before .before .args .cards))
 
 returns : tie.Need-returns

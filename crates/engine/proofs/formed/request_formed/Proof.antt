@@ -46,15 +46,21 @@ ok-request-requires c κs = search needs
 
 returns : tie.Need-returns
 unfolding requestTest
-returns c = rw (
-  ← c .before .before .before .before .before .before .before .before .before .before .before .before .waiting .ensures,
-  lt-ltb _ _ (c .before .before .before .before .before .before .before .before .before .before .before .if1 .taken),
-  c .before .before .before .five-at .ensures,
-  c .ok-request .ensures,
-  c .before .before .cards .ensures,
-  c .before .blocks2 .ensures,
-  c .before .before .before .before .before .before .before .before .before .before .request-at .ensures,
-)
+returns c =
+    let c₂ = c .before .before in
+    let c₃ = c₂ .before in
+    let c₁₀ = c₃ .before .before .before .before .before .before .before in
+    let c₁₁ = c₁₀ .before in
+    let c₁₂ = c₁₁ .before in
+    rw (
+      ← c₁₂ .waiting .ensures,
+      lt-ltb _ _ (c₁₁ .if1 .taken),
+      c₃ .five-at .ensures,
+      c .ok-request .ensures,
+      c₂ .cards .ensures,
+      c .before .blocks2 .ensures,
+      c₁₀ .request-at .ensures,
+    )
 
 five-at-requires-2 : tie.Need-five-at-requires-2
 five-at-requires-2 c κs = search needs

@@ -9,19 +9,34 @@ last-requires : tie.Need-last-requires
 last-requires c κs = search needs
 
 returns : tie.Need-returns
-returns c = numbers-spent _ (c .before .before .before .pre .0) (c .before .before .before .pre .1) _ (c .before .before .before .pre .2) _ (c .before .before .last .ensures) (c .if1 .taken)
+returns c =
+    let c₂ = c .before .before in
+    let c₃ = c₂ .before in
+    numbers-spent _ (c₃ .pre .0) (c₃ .pre .1) _ (c₃ .pre .2) _ (c₂ .last .ensures) (c .if1 .taken)
 
 held-requires : tie.Need-held-requires
-held-requires c κs = (sizes _ (c .before .before .before .pre .0) .few-cards, head-block _ (c .before .before .before .pre .0) (c .before .before .before .pre .1) _ (c .before .before .before .pre .2))
+held-requires c κs =
+    let c₃ = c .before .before .before in
+    (sizes _ (c₃ .pre .0) .few-cards, head-block _ (c₃ .pre .0) (c₃ .pre .1) _ (c₃ .pre .2))
 
 returns-2 : tie.Need-returns-2
-returns-2 c = block-held _ (c .before .before .before .before .before .pre .0) (c .before .before .before .before .before .pre .1) _ (c .before .before .before .before .before .pre .2) _ (c .before .before .before .before .last .ensures) (c .before .before .if1 .left) _ (c .before .held .ensures) (c .if2 .taken)
+returns-2 c =
+    let c₂ = c .before .before in
+    let c₄ = c₂ .before .before in
+    let c₅ = c₄ .before in
+    block-held _ (c₅ .pre .0) (c₅ .pre .1) _ (c₅ .pre .2) _ (c₄ .last .ensures) (c₂ .if1 .left) _ (c .before .held .ensures) (c .if2 .taken)
 
 judge-free-requires : tie.Need-judge-free-requires
 judge-free-requires c κs = search needs
 
 returns-3 : tie.Need-returns-3
-returns-3 c = block-free _ (c .before .before .before .before .before .before .pre .0) (c .before .before .before .before .before .before .pre .1) _ (c .before .before .before .before .before .before .pre .2) _ (c .before .before .before .before .before .last .ensures) (c .before .before .before .if1 .left) _ (c .before .before .held .ensures) (c .before .if2 .left) _ (c .judge-free .ensures)
+returns-3 c =
+    let c₂ = c .before .before in
+    let c₃ = c₂ .before in
+    let c₅ = c₃ .before .before in
+    let c₆ = c₅ .before in
+    block-free _ (c₆ .pre .0) (c₆ .pre .1) _ (c₆ .pre .2) _ (c₅ .last .ensures) (c₃ .if1 .left)
+    _ (c₂ .held .ensures) (c .before .if2 .left) _ (c .judge-free .ensures)
 
 pub judge-spec : {M : Type 1} → statement M
 judge-spec = tie.close (tie.spec last-requires returns held-requires returns-2 judge-free-requires returns-3)

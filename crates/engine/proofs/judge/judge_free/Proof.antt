@@ -8,37 +8,62 @@ home-at-requires : tie.Need-home-at-requires
 home-at-requires c κs = head-block _ (c .pre .0) (c .pre .1) _ (c .pre .2)
 
 cell-at-requires : tie.Need-cell-at-requires
-cell-at-requires c κs = (head-card _ (c .before .pre .0) (c .before .pre .1) _ (c .before .pre .2), head-block _ (c .before .pre .0) (c .before .pre .1) _ (c .before .pre .2))
+cell-at-requires c κs = let p = c .before .pre in (head-card _ (p .0) (p .1) _ (p .2), head-block _ (p .0) (p .1) _ (p .2))
 
 owner-cell-requires : tie.Need-owner-cell-requires
-owner-cell-requires c κs = (head-block _ (c .before .before .pre .0) (c .before .before .pre .1) _ (c .before .before .pre .2), owner-there _ (c .before .before .pre .0) (c .before .before .pre .1) _ (c .before .before .pre .2) _ (c .before .home-at .ensures))
+owner-cell-requires c κs =
+    let c₂ = c .before .before in
+    (head-block _ (c₂ .pre .0) (c₂ .pre .1) _ (c₂ .pre .2), owner-there _ (c₂ .pre .0) (c₂ .pre .1) _ (c₂ .pre .2) _ (c .before .home-at .ensures))
 
 impossible-requires : tie.Need-impossible-requires
 impossible-requires c κs = search needs
 
 returns : tie.Need-returns
-returns c = free-impossible _ (c .before .before .before .before .before .pre .0) (c .before .before .before .before .before .pre .1) _ (c .before .before .before .before .before .pre .2) _ (c .before .before .before .before .home-at .ensures) _ (c .before .before .before .cell-at .ensures) _ (c .before .before .owner-cell .ensures)
+returns c =
+    let c₂ = c .before .before in
+    let c₃ = c₂ .before in
+    let c₄ = c₃ .before in
+    let c₅ = c₄ .before in
+    free-impossible _ (c₅ .pre .0) (c₅ .pre .1) _ (c₅ .pre .2) _ (c₄ .home-at .ensures) _ (c₃ .cell-at .ensures) _ (c₂ .owner-cell .ensures)
     _ (c .before .impossible .ensures) (c .if1 .taken)
 
 pooled-requires : tie.Need-pooled-requires
 pooled-requires c κs = search needs
 
 returns-2 : tie.Need-returns-2
-returns-2 c = free-full _ (c .before .before .before .before .before .before .before .before .pre .0) (c .before .before .before .before .before .before .before .before .pre .1) _ (c .before .before .before .before .before .before .before .before .pre .2) _ (c .before .before .before .before .before .before .before .home-at .ensures) _ (c .before .before .before .before .before .before .cell-at .ensures) _ (c .before .before .before .before .before .owner-cell .ensures)
-    _ (c .before .before .before .before .impossible .ensures) (c .before .before .before .if1 .left) _ (c .before .pooled .ensures) (c .if2 .taken)
+returns-2 c =
+    let c₃ = c .before .before .before in
+    let c₄ = c₃ .before in
+    let c₅ = c₄ .before in
+    let c₆ = c₅ .before in
+    let c₇ = c₆ .before in
+    let c₈ = c₇ .before in
+    free-full _ (c₈ .pre .0) (c₈ .pre .1) _ (c₈ .pre .2) _ (c₇ .home-at .ensures) _ (c₆ .cell-at .ensures) _ (c₅ .owner-cell .ensures)
+    _ (c₄ .impossible .ensures) (c₃ .if1 .left) _ (c .before .pooled .ensures) (c .if2 .taken)
 
 cards-requires : tie.Need-cards-requires
 cards-requires c κs = search needs
 
 turn-of-requires : tie.Need-turn-of-requires
-turn-of-requires c κs = (
-  cards-few _ (c .before .before .before .before .before .before .before .before .before .pre .0) _ (c .cards .ensures),
-  owner-there _ (c .before .before .before .before .before .before .before .before .before .pre .0) (c .before .before .before .before .before .before .before .before .before .pre .1) _ (c .before .before .before .before .before .before .before .before .before .pre .2) _ (c .before .before .before .before .before .before .before .before .home-at .ensures),
-)
+turn-of-requires c κs =
+    let c₈ = c .before .before .before .before .before .before .before .before in
+    let c₉ = c₈ .before in (
+      cards-few _ (c₉ .pre .0) _ (c .cards .ensures),
+      owner-there _ (c₉ .pre .0) (c₉ .pre .1) _ (c₉ .pre .2) _ (c₈ .home-at .ensures),
+    )
 
 returns-3 : tie.Need-returns-3
-returns-3 c = free-turn _ (c .before .before .before .before .before .before .before .before .before .before .pre .0) (c .before .before .before .before .before .before .before .before .before .before .pre .1) _ (c .before .before .before .before .before .before .before .before .before .before .pre .2) _ (c .before .before .before .before .before .before .before .before .before .home-at .ensures) _ (c .before .before .before .before .before .before .before .before .cell-at .ensures) _ (c .before .before .before .before .before .before .before .owner-cell .ensures)
-    _ (c .before .before .before .before .before .before .impossible .ensures) (c .before .before .before .before .before .if1 .left) _ (c .before .before .before .pooled .ensures) (c .before .before .if2 .left) _ (c .before .cards .ensures) _ (c .turn-of .ensures)
+returns-3 c =
+    let c₂ = c .before .before in
+    let c₃ = c₂ .before in
+    let c₅ = c₃ .before .before in
+    let c₆ = c₅ .before in
+    let c₇ = c₆ .before in
+    let c₈ = c₇ .before in
+    let c₉ = c₈ .before in
+    let c₁₀ = c₉ .before in
+    free-turn _ (c₁₀ .pre .0) (c₁₀ .pre .1) _ (c₁₀ .pre .2) _ (c₉ .home-at .ensures) _ (c₈ .cell-at .ensures) _ (c₇ .owner-cell .ensures)
+    _ (c₆ .impossible .ensures) (c₅ .if1 .left) _ (c₃ .pooled .ensures) (c₂ .if2 .left) _ (c .before .cards .ensures) _ (c .turn-of .ensures)
 
 pub judge-free-spec : {M : Type 1} → statement M
 judge-free-spec =

@@ -19,8 +19,11 @@ sharers-named-requires : tie.Need-sharers-named-requires
 sharers-named-requires c κs = search needs
 
 returns-3 : tie.Need-returns-3
-returns-3 c = λ B is. getx-suffices _ _ _ B is _ (c .before .before .before .before .owner-named .ensures)
-    (not-false _ (c .before .before .before .if1 .left)) (c .before .if2 .left) _ (c .sharers-named .ensures)
+returns-3 c =
+    let c₃ = c .before .before .before in
+    let c₄ = c₃ .before in
+    λ B is. getx-suffices _ _ _ B is _ (c₄ .owner-named .ensures)
+    (not-false _ (c₃ .if1 .left)) (c .before .if2 .left) _ (c .sharers-named .ensures)
 
 pub suffices-spec : {M : Type 1} → statement M
 suffices-spec = tie.close (tie.spec owner-named-requires returns returns-2 sharers-named-requires returns-3)

@@ -18,7 +18,8 @@ set-pooled-requires : tie.Need-set-pooled-requires
 set-pooled-requires c κs = search needs
 
 returns : tie.Need-returns
-returns c = λ k e. push-message k _ e _ _ _ _ (c .before .before .before .before .pooled .ensures) (omega arith) (c .before .before .put-message .ensures) (c .set-pooled .ensures)
+returns c = λ k e. push-message k _ e _ _ _ _ (c .before .before .before .before .pooled .ensures)
+    (omega arith) (c .before .before .put-message .ensures) (c .set-pooled .ensures)
 
 pub push-message-spec : {M : Type 1} → statement M
 push-message-spec =

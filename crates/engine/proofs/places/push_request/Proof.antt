@@ -18,7 +18,8 @@ set-waiting-requires : tie.Need-set-waiting-requires
 set-waiting-requires c κs = search needs
 
 returns : tie.Need-returns
-returns c = λ k e. push-request k _ e _ _ _ _ (c .before .before .before .before .waiting .ensures) (omega arith) (c .before .before .put-request .ensures) (c .set-waiting .ensures)
+returns c = λ k e. push-request k _ e _ _ _ _ (c .before .before .before .before .waiting .ensures)
+    (omega arith) (c .before .before .put-request .ensures) (c .set-waiting .ensures)
 
 pub push-request-spec : {M : Type 1} → statement M
 push-request-spec =

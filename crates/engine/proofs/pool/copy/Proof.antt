@@ -24,7 +24,9 @@ push-message-requires : tie.Need-push-message-requires
 push-message-requires c κs = search needs
 
 returns-3 : tie.Need-returns-3
-returns-3 c = copy-done _ (c .before .before .before .before .before .before .before .before .pre) _ (omega arith) _ (c .before .message-at .ensures)
+returns-3 c =
+    let c₈ = c .before .before .before .before .before .before .before .before in
+    copy-done _ (c₈ .pre) _ (omega arith) _ (c .before .message-at .ensures)
     (omega arith) _ (c .push-message .ensures)
 
 pub copy-spec : {M : Type 1} → statement M

@@ -27,43 +27,55 @@ is-live-requires c κs = search needs
 
 remove-message-requires : tie.Need-remove-message-requires
 remove-message-requires c κs =
-    let n = pool-room _ (c .before .before .before .before .before .before .before .before .before .before .pre) in
+    let c₁₀ = c .before .before .before .before .before .before .before .before .before .before in
+    let n = pool-room _ (c₁₀ .pre) in
     (omega arith, omega arith)
 
 returns-2 : tie.Need-returns-2
 returns-2 c =
-    let x = c .before .before .before .before in
+    let c₂ = c .before .before in
+    let c₃ = c₂ .before in
+    let c₄ = c₃ .before in
+    let x = c₄ in
     let m = x .before .before in
     let f = m .before .before .before .before .before .pre in
     deliver-stale _ f _ (omega arith) _ (m .message-at .ensures) _ (x .cell-at .ensures)
-    (sym (c .before .before .before .is-live .ensures) ∙ not-true _ (c .before .before .if2 .taken)) _ (c .remove-message .ensures)
+    (sym (c₃ .is-live .ensures) ∙ not-true _ (c₂ .if2 .taken)) _ (c .remove-message .ensures)
 
 taken-requires : tie.Need-taken-requires
 taken-requires c κs = search needs
 
 put-cell-requires : tie.Need-put-cell-requires
 put-cell-requires c κs =
-    let m = c .before .before .before .before .before .before in
+    let c₆ = c .before .before .before .before .before .before in
+    let m = c₆ in
     known _ (m .before .before .before .before .before .pre) _ (omega arith) _ (m .message-at .ensures)
 
 remove-message-requires-2 : tie.Need-remove-message-requires-2
 remove-message-requires-2 c κs =
-    let x = c .before .before .before .before .before .before in
+    let c₂ = c .before .before in
+    let c₆ = c₂ .before .before .before .before in
+    let x = c₆ in
     let m = x .before .before in
     let f = m .before .before .before .before .before .pre in
     let n = pool-room _ f in
     let e = put-pooled _ f _ (omega arith) _ (m .message-at .ensures) _ (x .cell-at .ensures)
-    _ (c .before .before .taken .ensures) _ (c .before .put-cell .ensures) in
+    _ (c₂ .taken .ensures) _ (c .before .put-cell .ensures) in
     (omega arith, omega arith)
 
 returns-3 : tie.Need-returns-3
 returns-3 c =
-    let x = c .before .before .before .before .before .before .before in
+    let c₂ = c .before .before in
+    let c₃ = c₂ .before in
+    let c₅ = c₃ .before .before in
+    let c₆ = c₅ .before in
+    let c₇ = c₆ .before in
+    let x = c₇ in
     let m = x .before .before in
     let f = m .before .before .before .before .before .pre in
     deliver-taken _ f _ (omega arith) _ (m .message-at .ensures) _ (x .cell-at .ensures)
-    _ (c .before .before .before .taken .ensures) _ (c .before .before .put-cell .ensures)
-    (sym (c .before .before .before .before .before .before .is-live .ensures) ∙ not-false _ (c .before .before .before .before .before .if2 .left))
+    _ (c₃ .taken .ensures) _ (c₂ .put-cell .ensures)
+    (sym (c₆ .is-live .ensures) ∙ not-false _ (c₅ .if2 .left))
     _ (c .remove-message2 .ensures)
 
 pub deliver-spec : {M : Type 1} → statement M

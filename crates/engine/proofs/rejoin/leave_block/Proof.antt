@@ -17,10 +17,14 @@ put-cell-requires : tie.Need-put-cell-requires
 put-cell-requires c κs = search needs
 
 returns : tie.Need-returns
-returns c = λ k f e.
-    let h = c .before .before .before .before .before .home-at .ensures in
+returns c =
+    let c₂ = c .before .before in
+    let c₃ = c₂ .before in
+    let c₅ = c₃ .before .before in
+    λ k f e.
+    let h = c₅ .home-at .ensures in
     block-left k _ e _ (search needs) f _ (search needs) _ _ (h .0) (h .1) (h .2)
-    (c .before .before .before .home-without .ensures) _ _ (c .before .before .put-home .ensures) (c .put-cell .ensures)
+    (c₃ .home-without .ensures) _ _ (c₂ .put-home .ensures) (c .put-cell .ensures)
 
 pub leave-block-spec : {M : Type 1} → statement M
 leave-block-spec =

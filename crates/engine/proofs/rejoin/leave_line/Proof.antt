@@ -23,20 +23,28 @@ request-at-requires : tie.Need-request-at-requires Inv-loop μ-loop
 request-at-requires c κs = omega (arith, leaves-room _ _ _ _ (c .before .before .before .before .loop .inv))
 
 remove-request-requires : tie.Need-remove-request-requires Inv-loop μ-loop
-remove-request-requires c κs = (omega arith, leaves-room _ _ _ _ (c .before .before .before .before .before .before .before .before .loop .inv))
+remove-request-requires c κs =
+    let c₈ = c .before .before .before .before .before .before .before .before in
+    (omega arith, leaves-room _ _ _ _ (c₈ .loop .inv))
 
 loop-less : tie.Need-loop-less Inv-loop μ-loop
 loop-less c =
-    let inv = c .before .before .before .before .before .before .before .before .before .loop .inv in
-    let r = c .before .before .before .before .request-at .ensures in
-    let fewer = leaves-fewer _ _ _ _ inv (omega arith) _ r (c .before .before .if2 .taken) _ (c .remove-request .ensures) in
+    let c₂ = c .before .before in
+    let c₄ = c₂ .before .before in
+    let c₉ = c₄ .before .before .before .before .before in
+    let inv = c₉ .loop .inv in
+    let r = c₄ .request-at .ensures in
+    let fewer = leaves-fewer _ _ _ _ inv (omega arith) _ r (c₂ .if2 .taken) _ (c .remove-request .ensures) in
     omega arith
 
 loop-again : tie.Need-loop-again Inv-loop μ-loop
 loop-again c =
-    let inv = c .before .before .before .before .before .before .before .before .before .loop .inv in
-    let r = c .before .before .before .before .request-at .ensures in
-    leaves-out _ _ _ _ inv (omega arith) _ r (c .before .before .if2 .taken) _ (c .remove-request .ensures)
+    let c₂ = c .before .before in
+    let c₄ = c₂ .before .before in
+    let c₉ = c₄ .before .before .before .before .before in
+    let inv = c₉ .loop .inv in
+    let r = c₄ .request-at .ensures in
+    leaves-out _ _ _ _ inv (omega arith) _ r (c₂ .if2 .taken) _ (c .remove-request .ensures)
 
 add-i : tie.Need-add-i Inv-loop μ-loop
 add-i c = search needs
@@ -46,8 +54,10 @@ loop-less-2 c = search needs
 
 loop-again-2 : tie.Need-loop-again-2 Inv-loop μ-loop
 loop-again-2 c =
-    let inv = c .before .before .before .before .before .before .before .loop .inv in
-    leaves-pass _ _ _ _ inv (omega arith) _ (c .before .before .request-at .ensures) (c .if2 .left)
+    let c₂ = c .before .before in
+    let c₇ = c₂ .before .before .before .before .before in
+    let inv = c₇ .loop .inv in
+    leaves-pass _ _ _ _ inv (omega arith) _ (c₂ .request-at .ensures) (c .if2 .left)
 
 returns : tie.Need-returns Inv-loop μ-loop
 returns c = leaves-all _ _ _ _ (c .before .before .before .loop .inv) (omega arith)

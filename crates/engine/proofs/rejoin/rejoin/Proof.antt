@@ -23,8 +23,10 @@ leave-blocks-requires c κs =
 
 returns-2 : tie.Need-returns-2
 returns-2 c =
-    let f = c .before .before .before .before .before .before .before .pre in
-    rejoin-done _ f _ _ _ (omega arith) (c .before .before .leave-line .ensures) (c .leave-blocks .ensures)
+    let c₂ = c .before .before in
+    let c₇ = c₂ .before .before .before .before .before in
+    let f = c₇ .pre in
+    rejoin-done _ f _ _ _ (omega arith) (c₂ .leave-line .ensures) (c .leave-blocks .ensures)
 
 pub rejoin-spec : {M : Type 1} → statement M
 rejoin-spec =

@@ -37,11 +37,13 @@ loop-less : tie.Need-loop-less Inv-loop μ-loop
 loop-less c = search needs
 
 loop-again : tie.Need-loop-again Inv-loop μ-loop
-loop-again c = (
-  search needs,
-  seen-more _ _ _ _ _ _ _ _ _ _ (omega arith) (omega arith) (c .before .before .before .before .before .before .loop .inv .1)
-      (c .before .before .before .cell-at .ensures) (c .before .seen .ensures) (c .put-cell .ensures),
-)
+loop-again c =
+    let c₃ = c .before .before .before in
+    let c₆ = c₃ .before .before .before in (
+      search needs,
+      seen-more _ _ _ _ _ _ _ _ _ _ (omega arith) (omega arith) (c₆ .loop .inv .1)
+          (c₃ .cell-at .ensures) (c .before .seen .ensures) (c .put-cell .ensures),
+    )
 
 returns : tie.Need-returns Inv-loop μ-loop
 returns c = seen-all _ _ _ _ _ _ _ (omega arith) (c .before .loop .inv .1)

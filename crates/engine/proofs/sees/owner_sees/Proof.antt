@@ -29,16 +29,20 @@ goes-for-requires-2 c κs = search needs
 returns : tie.Need-returns
 unfolding ownerSees
 returns c =
-    let a = c .before .before .before .before .args in
+    let c₃ = c .before .before .before in
+    let c₄ = c₃ .before in
+    let a = c₄ .args in
     let e = c .goes-for .ensures ∙ ap (λ s. goes s (a .cell)) (c .before .sees-gets .ensures) in
-    by-number (λ t. c .goes-for .result ≡ ownerSees t (a .cell)) (a .turn) (0 ∷ []) (c .before .before .before .match .keys1) (e, tt)
+    by-number (λ t. c .goes-for .result ≡ ownerSees t (a .cell)) (a .turn) (0 ∷ []) (c₃ .match .keys1) (e, tt)
 
 returns-2 : tie.Need-returns-2
 unfolding ownerSees
 returns-2 c =
-    let a = c .before .before .before .before .args in
+    let c₃ = c .before .before .before in
+    let c₄ = c₃ .before in
+    let a = c₄ .args in
     let e = c .goes-for2 .ensures ∙ ap (λ s. goes s (a .cell)) (c .before .sees-getx .ensures) in
-    by-number (λ t. c .goes-for2 .result ≡ ownerSees t (a .cell)) (a .turn) (1 ∷ []) (c .before .before .before .match .keys2) (e, tt)
+    by-number (λ t. c .goes-for2 .result ≡ ownerSees t (a .cell)) (a .turn) (1 ∷ []) (c₃ .match .keys2) (e, tt)
 
 returns-3 : tie.Need-returns-3
 unfolding ownerSees

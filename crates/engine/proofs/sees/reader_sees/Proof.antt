@@ -20,10 +20,14 @@ goes-for-requires c κs = search needs
 returns : tie.Need-returns
 unfolding readerSees
 returns c =
-    let a = c .before .before .before .before .before .args in
+    let c₂ = c .before .before in
+    let c₃ = c₂ .before in
+    let c₄ = c₃ .before in
+    let c₅ = c₄ .before in
+    let a = c₅ .args in
     let e = c .goes-for .ensures ∙ ap (λ s. goes s (a .cell)) (c .before .sees-getx .ensures) in
-    let is = sym (c .before .before .before .is-reader .ensures) ∙ c .before .before .if1 .taken in
-    by-number (λ t. c .goes-for .result ≡ readerSees t (a .cell)) (a .turn) (1 ∷ 3 ∷ []) (c .before .before .before .before .match .keys1)
+    let is = sym (c₃ .is-reader .ensures) ∙ c₂ .if1 .taken in
+    by-number (λ t. c .goes-for .result ≡ readerSees t (a .cell)) (a .turn) (1 ∷ 3 ∷ []) (c₄ .match .keys1)
     (rw is e, (rw is e, tt))
 
 returns-2 : tie.Need-returns-2

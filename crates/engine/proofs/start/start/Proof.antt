@@ -46,9 +46,11 @@ set-blocks-requires c κs = search needs
 
 returns-2 : tie.Need-returns-2 Inv-loop μ-loop
 returns-2 c =
-    let t = c .before .before .before .before in
+    let c₂ = c .before .before in
+    let c₄ = c₂ .before .before in
+    let t = c₄ in
     started _ _ (sym (t .before .are-sizes .ensures) ∙ not-false _ (t .if1 .left)) _ _ _
-    (all-begun _ _ (omega arith) (t .before .before .before .loop .inv .1)) (c .before .before .set-cards .ensures) (c .set-blocks .ensures)
+    (all-begun _ _ (omega arith) (t .before .before .before .loop .inv .1)) (c₂ .set-cards .ensures) (c .set-blocks .ensures)
 
 pub start-spec : {M : Type 1} → statement M
 start-spec =

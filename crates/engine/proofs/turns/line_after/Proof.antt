@@ -15,13 +15,18 @@ remove-request-requires c κs = search needs
 
 push-request-requires : tie.Need-push-request-requires
 push-request-requires c κs =
-    let p = c .before .before .before .before .before .before .before .pre in
-    room-again (p .5 .0) _ _ (p .5 .1) (p .0) (p .1) (c .before .before .remove-request .ensures)
+    let c₂ = c .before .before in
+    let c₇ = c₂ .before .before .before .before .before in
+    let p = c₇ .pre in
+    room-again (p .5 .0) _ _ (p .5 .1) (p .0) (p .1) (c₂ .remove-request .ensures)
 
 returns : tie.Need-returns
-returns c = λ k B e is.
-    let removed = c .before .before .before in
-    line-again k B _ e _ _ _ (removed .remove-request .ensures) _ _ _ (c .before .before .match .keys1)
+returns c =
+    let c₂ = c .before .before in
+    let c₃ = c₂ .before in
+    λ k B e is.
+    let removed = c₃ in
+    line-again k B _ e _ _ _ (removed .remove-request .ensures) _ _ _ (c₂ .match .keys1)
     (removed .before .before .before .cards .ensures) (removed .before .before .retried .ensures B is) (c .push-request .ensures)
 
 returns-2 : tie.Need-returns-2
