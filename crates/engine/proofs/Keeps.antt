@@ -48,6 +48,7 @@ use Rattle.rules.specs.Events.{
 use Rattle.rules.specs.declared.kinds.Cell.{Cell}
 use Rattle.rules.specs.declared.kinds.Request.{Request}
 use Rattle.rules.specs.declared.kinds.Message.{Message}
+use Rattle.rules.specs.declared.kinds.Answer.{Answer}
 use Rattle.rules.specs.declared.kinds.Answer.the-variants.{Done}
 use Rattle.rules.specs.declared.kinds.Turn.{Turn}
 use Rattle.rules.specs.declared.kinds.Turn.the-variants.{
@@ -91,7 +92,7 @@ use Rattle.rules.proofs.Formed.{
 use Rattle.rules.proofs.Stays.{stays-formed}
 use Rattle.rules.proofs.Start.{start-cases, refused≢done, fresh-formed}
 use Rattle.engine.specs.Words.{words, cellAt, messageAt as messageIn, pooledOf, blockOf, first, view, formed}
-use Rattle.engine.specs.Parts.{act}
+use Rattle.engine.specs.Parts.{act, Does}
 use Rattle.engine.proofs.Does.{step-act}
 use Rattle.engine.proofs.View.{formed-chassis, formed-of, BlockFits, RequestFits, MessageFits, Fits, view-words}
 
@@ -440,6 +441,10 @@ keeps-formed w e h f =
     words-formed (act c e .after)
     (subst (λ (o : Result). wellFormed (o .after) ≡ true) (step-act c e wf) (stays-formed c e wf))
     (act-kept (wf→ c wf) (view-kept w) e f)
+
+-- and so does what does an event
+pub does-formed : (w : List ℕ) (e : Event) (r : Answer) (w′ : List ℕ) → formed w ≡ true → EventFits e → Does w e r w′ → formed w′ ≡ true
+does-formed w e r w′ h f d = subst (λ (l : List ℕ). formed l ≡ true) (sym (d .after)) (keeps-formed w e h f)
 
 -- an accepted Start makes formed words
 pub start-formed-words : (cards blocks v : ℕ) → start cards blocks .answer ≡ Done v → formed (words (start cards blocks .after)) ≡ true
