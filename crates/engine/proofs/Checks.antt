@@ -1,17 +1,18 @@
 -- The tests that the code computes, as the rules write them.
-use Prim.Native.Nat.{ℕ, _+_, _-_, _*_, _%_, _^_, _≤_, _<_}
-use native.Mathlib.Nat.{one-mul, mod-eq-of-lt}
+use Prim.Native.Nat.{ℕ, _+_, _^_}
 use native.Mathlib.Numerals.{add-one}
 use native.Mathlib.Omega.{arith}
 use mathlib.Core.Bool.{Bool, true, false, cond, not, _&&_, _||_, and-true, and-assoc, and-comm}
 use mathlib.Core.Path.{_≡_, refl}
 use lib.Dec.{eqb, ltb, leb}
-use lib.Pow.{pow-lt}
+use lib.Pow.{pow-pos}
+use borrow.Author.Tests.{le-leb, lt-leb, ltb-true, ltb-false}
 use Rattle.rules.specs.Tests.{_⇒_, each, all, some}
 use Rattle.rules.specs.Masks.{every, inside}
-use Rattle.rules.specs.Numbers.{mostCards, lastRetry, gets, putx, states}
+use Rattle.rules.specs.Numbers.{lastRetry, gets, putx, states}
 use Rattle.rules.specs.Table.{loads, waits}
 use Rattle.rules.specs.Formed.{homeOrCard, okCell, okRequest, okMessage}
+use Rattle.rules.proofs.Tests.{test}
 use Rattle.rules.specs.declared.kinds.Cell.{Cell}
 use Rattle.rules.specs.declared.kinds.Request.{Request}
 use Rattle.rules.specs.declared.kinds.Message.{Message}
@@ -56,11 +57,12 @@ module _ (f : ℕ → Bool) (i : ℕ) (found : Bool) (e : found ≡ some i f) wh
   pub some-done : (n : ℕ) → i ≡ n → found ≡ some n f
   some-done n h = rw (← h) e
 
--- a mask of so many cards is below this
-pub bound-is : (cards : ℕ) → cards ≤ mostCards → 1 * 2 ^ cards % 2 ^ 64 ≡ 2 ^ cards
-bound-is cards h =
-    let l : 2 ^ cards < 2 ^ 64 = pow-lt {j = 64} (omega arith) in
-    rw (one-mul (2 ^ cards)) (mod-eq-of-lt l)
+-- no card in the mask but those of the mask n of every card
+pub inside-test : (cards mask n : ℕ) → n ≡ every cards → leb mask n ≡ inside cards mask
+unfolding every inside
+inside-test cards mask n e = test (ltb mask (2 ^ cards))
+    (λ p. rw (p, le-leb mask n (let l = ltb-true mask (2 ^ cards) p in omega (arith, pow-pos cards))))
+    (λ p. rw (p, lt-leb mask n (let l = ltb-false mask (2 ^ cards) p in omega (arith, pow-pos cards))))
 
 -- the rules' tests of an item, one after the other
 pub cell-tested : (last : ℕ) (x : Cell) (w l : Bool) → w ≡ waits (x .state) → l ≡ loads (x .state)
@@ -70,11 +72,11 @@ unfolding okCell each
 cell-tested last x w l hw hl =
     rw (hw, hl, or-imp, or-imp-not (waits (x .state)), or-imp-not (loads (x .state))) (simp (and-assoc, and-true))
 
-pub request-tested : (cards blocks : ℕ) (r : Request) (n : ℕ) → n ≡ 2 ^ cards
-    → (ltb (r .card) cards && ltb (r .block) blocks && leb gets (r .kind) && leb (r .kind) putx && ltb (r .mask) n
-    && leb (r .retry .0) lastRetry && (not (eqb (r .retry .0) lastRetry) || eqb (r .mask) (n - 1))) ≡ okRequest cards blocks r
-unfolding okRequest each inside every
-request-tested cards blocks r n h = rw (h, or-imp) (simp (and-assoc, and-true))
+pub request-tested : (cards blocks : ℕ) (r : Request) (n : ℕ) → n ≡ every cards
+    → (ltb (r .card) cards && ltb (r .block) blocks && leb gets (r .kind) && leb (r .kind) putx && leb (r .mask) n
+    && leb (r .retry .0) lastRetry && (not (eqb (r .retry .0) lastRetry) || eqb (r .mask) n)) ≡ okRequest cards blocks r
+unfolding okRequest each
+request-tested cards blocks r n h = rw (inside-test cards (r .mask) n h, h, or-imp) (simp (and-assoc, and-true))
 
 pub message-tested : (cards blocks last : ℕ) (m : Message) (s : Bool) → s ≡ homeOrCard cards (m .sender)
     → (s && ltb (m .receiver) cards && ltb (m .block) blocks && not (eqb (m .number .0) 0) && leb (m .number .0) last)

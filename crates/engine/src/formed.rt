@@ -7,6 +7,7 @@ use crate::layout::LINE;
 use crate::layout::PLACE_WORDS;
 use crate::layout::POOL;
 use crate::layout::WORDS;
+use crate::masks::every;
 use crate::words::Home;
 use crate::words::blocks;
 use crate::words::cards;
@@ -33,7 +34,7 @@ use rules::table::loads;
 use rules::table::waits;
 ghost use mathlib.Core.Path.{_≡_};
 ghost use mathlib.Core.Bool.{_&&_};
-ghost use Prim.Native.Nat.{_+_, _^_, _≤_, _<_};
+ghost use Prim.Native.Nat.{_+_, _≤_, _<_};
 ghost use lib.ListN.{length};
 ghost use Rattle.rules.specs.Tests.{all};
 ghost use Rattle.rules.specs.Masks.{inside};
@@ -79,14 +80,6 @@ fn five_at(s: &[u64; WORDS], p: usize, a: u64, b: u64, c: u64, d: u64, e: u64) -
     (s[p] == a) & (s[p + 1] == b) & (s[p + 2] == c) & (s[p + 3] == d) & (s[p + 4] == e)
 }
 
-// A mask of so many cards is below this.
-fn mask_bound(cards: u64) -> u64
-    requires { ⌜ cards ≤ mostCards ⌝ }
-    ensures { λ r. ⌜ r ≡ 2 ^ cards ⌝ }
-{
-    1 << cards
-}
-
 // The sizes that there are.
 pub(crate) fn are_sizes(cards: u64, blocks: u64) -> bool
     ensures { λ r. ⌜ r ≡ sizes cards blocks ⌝ }
@@ -106,7 +99,7 @@ fn is_inside(mask: u8, cards: u64) -> bool
     requires { ⌜ cards ≤ mostCards ⌝ }
     ensures { λ r. ⌜ r ≡ inside cards mask ⌝ }
 {
-    (mask as u64) < mask_bound(cards)
+    mask <= every(cards)
 }
 
 // A cell of a card that is there.
@@ -137,15 +130,14 @@ fn ok_request(r: Request, cards: u64, blocks: u64) -> bool
     ensures { λ t. ⌜ t ≡ okRequest cards blocks r ⌝ }
 {
     let n = r.retry;
-    let bound = mask_bound(cards);
-    let mask = r.mask as u64;
+    let all = every(cards);
     ((r.card as u64) < cards)
         & ((r.block as u64) < blocks)
         & (GETS <= r.kind)
         & (r.kind <= PUTX)
-        & (mask < bound)
+        & (r.mask <= all)
         & (n.0 <= LAST_RETRY)
-        & ((n.0 != LAST_RETRY) | (mask == bound - 1))
+        & ((n.0 != LAST_RETRY) | (r.mask == all))
 }
 
 // A message in the pool.
