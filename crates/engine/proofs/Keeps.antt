@@ -1,7 +1,7 @@
 -- An event keeps formed words formed: what it leaves fits its fields, and is as Start makes it beyond the room there is.
 use Prim.Native.Nat.{ℕ, zero, suc, _^_, _≤_, _<_}
 use native.Mathlib.Omega.{arith}
-use mathlib.Core.Bool.{true, cond}
+use mathlib.Core.Bool.{true, false, cond}
 use mathlib.Core.List.{List, [], _∷_, _++_}
 use mathlib.Core.Path.{_≡_, refl, sym, ap, _∙_, subst, fun-ext}
 use lib.ListN.{length}
@@ -49,7 +49,8 @@ use Rattle.rules.specs.declared.kinds.Cell.{Cell}
 use Rattle.rules.specs.declared.kinds.Request.{Request}
 use Rattle.rules.specs.declared.kinds.Message.{Message}
 use Rattle.rules.specs.declared.kinds.Answer.{Answer}
-use Rattle.rules.specs.declared.kinds.Answer.the-variants.{Done}
+use Rattle.rules.specs.declared.kinds.Answer.the-variants.{Done, Refused}
+use Rattle.rules.specs.declared.kinds.Refusal.{Refusal}
 use Rattle.rules.specs.declared.kinds.Turn.{Turn}
 use Rattle.rules.specs.declared.kinds.Turn.the-variants.{
   GetsGranted,
@@ -93,8 +94,8 @@ use Rattle.rules.proofs.Stays.{stays-formed}
 use Rattle.rules.proofs.Start.{start-cases, refused≢done, fresh-formed}
 use Rattle.engine.specs.Words.{words, cellAt, messageAt as messageIn, pooledOf, blockOf, first, view, formed}
 use Rattle.engine.specs.Parts.{act, Does}
-use Rattle.engine.proofs.Does.{step-act}
-use Rattle.engine.proofs.View.{formed-chassis, formed-of, BlockFits, RequestFits, MessageFits, Fits, view-words}
+use Rattle.engine.proofs.Does.{sizes, step-act}
+use Rattle.engine.proofs.View.{cards-of, formed-chassis, formed-of, BlockFits, RequestFits, MessageFits, Fits, view-words}
 
 -- the numbers of an event fit their kinds: a store's value has 32 bits
 abbrev pub EventFits : Event → Type 0
@@ -452,3 +453,15 @@ start-formed-words cards blocks v = start-cases cards blocks (λ (o : Result). o
     (λ s _. words-formed (fresh cards blocks) (fresh-formed cards blocks s)
     (record { blocks = λ _. fresh-within; beyond = λ _ _. refl; messages = tt }))
     (λ r e. absurd (refused≢done r v e))
+
+-- a refused one makes none
+none-formed : formed (words (fresh 0 0)) ≡ false
+none-formed = test (formed (words (fresh 0 0)))
+    (λ e. absurd (let s = sizes (words (fresh 0 0)) e .a-card in let n = cards-of (fresh 0 0) (words (fresh 0 0)) refl in omega arith))
+    (λ e. e)
+
+pub start-refused-words : (cards blocks : ℕ) (r : Refusal) → start cards blocks .answer ≡ Refused r
+    → formed (words (start cards blocks .after)) ≡ false
+start-refused-words cards blocks r = start-cases cards blocks (λ (o : Result). o .answer ≡ Refused r → formed (words (o .after)) ≡ false)
+    (λ _ e. absurd (refused≢done r 0 (sym e)))
+    (λ _ _. none-formed)

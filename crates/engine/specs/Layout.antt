@@ -3,8 +3,23 @@ use Prim.Native.Nat.{ℕ, _+_, _*_}
 use Rattle.rules.specs.Numbers.{mostCards, mostBlocks, room}
 
 -- the header: cards, blocks, how many wait in the line, how many are in the pool, the last order number
+abbrev pub cardsAt : ℕ
+cardsAt = 0
+
+abbrev pub blocksAt : ℕ
+blocksAt = 1
+
+abbrev pub waitingAt : ℕ
+waitingAt = 2
+
+abbrev pub pooledAt : ℕ
+pooledAt = 3
+
+abbrev pub lastAt : ℕ
+lastAt = 4
+
 abbrev pub headWords : ℕ
-headWords = 5
+headWords = lastAt + 1
 
 -- a block: memory, owner, sharers, and for each card state, value, awaited number
 abbrev pub homeWords : ℕ

@@ -10,7 +10,18 @@ use Rattle.rules.specs.Formed.{wellFormed}
 use Rattle.rules.specs.declared.kinds.Cell.{Cell}
 use Rattle.rules.specs.declared.kinds.Request.{Request}
 use Rattle.rules.specs.declared.kinds.Message.{Message}
-use Rattle.engine.specs.Layout.{placeWords, blockAt, cellPlace, lineAt, poolAt}
+use Rattle.engine.specs.Layout.{
+  cardsAt,
+  blocksAt,
+  waitingAt,
+  pooledAt,
+  lastAt,
+  placeWords,
+  blockAt,
+  cellPlace,
+  lineAt,
+  poolAt,
+}
 
 -- Laying a chassis out
 
@@ -48,19 +59,19 @@ words c =
 -- Reading one back
 
 abbrev pub cardsOf : List ℕ → ℕ
-cardsOf w = getD w 0 0
+cardsOf w = getD w cardsAt 0
 
 abbrev pub blocksOf : List ℕ → ℕ
-blocksOf w = getD w 1 0
+blocksOf w = getD w blocksAt 0
 
 abbrev pub waitingOf : List ℕ → ℕ
-waitingOf w = getD w 2 0
+waitingOf w = getD w waitingAt 0
 
 abbrev pub pooledOf : List ℕ → ℕ
-pooledOf w = getD w 3 0
+pooledOf w = getD w pooledAt 0
 
 abbrev pub lastOf : List ℕ → ℕ
-lastOf w = getD w 4 0
+lastOf w = getD w lastAt 0
 
 -- a field of a byte or of 32 bits is what its word is below that
 abbrev pub byte : ℕ → ℕ

@@ -27,6 +27,7 @@ ghost use Rattle.engine.specs.Words.{formed};
 ghost use Rattle.engine.specs.Parts.{Does};
 ghost use Rattle.engine.specs.Found.{found};
 
+// Refusals 1 and 2 first, at the look-up.
 pub(crate) fn ask(s: &mut [u64; WORDS], card: u8, block: u8, kind: u8, mask: u8) -> Answer
     requires { ⌜ formed (now s) ≡ true ⌝ }
     ensures { λ r. ⌜ Does (now (s .entry)) (Ask card block kind mask) r (now (s .exit)) ⌝ }

@@ -37,6 +37,7 @@ pub(crate) fn find(s: &[u64; WORDS], card: u8, block: u8) -> Found
     Found::There(cell_at(s, card, block))
 }
 
+// The cell's value, where its state loads.
 pub(crate) fn load(s: &[u64; WORDS], card: u8, block: u8) -> Answer
     requires { ⌜ formed (now s) ≡ true ⌝ }
     ensures { λ r. ⌜ Does (now (s .entry)) (Load card block) r (now (s .entry)) ⌝ }
@@ -54,6 +55,7 @@ pub(crate) fn load(s: &[u64; WORDS], card: u8, block: u8) -> Answer
     }
 }
 
+// The cell's value anew, where its state stores.
 pub(crate) fn store(s: &mut [u64; WORDS], card: u8, block: u8, value: u32) -> Answer
     requires { ⌜ formed (now s) ≡ true ⌝ }
     ensures { λ r. ⌜ Does (now (s .entry)) (Store card block value) r (now (s .exit)) ⌝ }
@@ -81,6 +83,7 @@ pub(crate) fn store(s: &mut [u64; WORDS], card: u8, block: u8, value: u32) -> An
     }
 }
 
+// The cell idle again, where its state drops.
 pub(crate) fn drop(s: &mut [u64; WORDS], card: u8, block: u8) -> Answer
     requires { ⌜ formed (now s) ≡ true ⌝ }
     ensures { λ r. ⌜ Does (now (s .entry)) (Drop card block) r (now (s .exit)) ⌝ }

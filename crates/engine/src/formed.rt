@@ -59,7 +59,8 @@ fn len_of(s: &[u64]) -> usize
     s.len()
 }
 
-pub(crate) fn sized(s: &[u64; WORDS]) -> usize
+// Called for its promise alone: there are as many words as the layout has.
+fn sized(s: &[u64; WORDS]) -> usize
     ensures { λ r. ⌜ length (now (s .entry)) ≡ allWords ⌝ }
 {
     len_of(s)

@@ -21,7 +21,7 @@ use rules::numbers::ROOM;
 use rules::table;
 ghost use mathlib.Core.Path.{_≡_};
 ghost use mathlib.Core.Bool.{true};
-ghost use Prim.Native.Nat.{ℕ, _≤_, _<_};
+ghost use Prim.Native.Nat.{_≤_, _<_};
 ghost use Rattle.rules.specs.Numbers.{mostCards, mostBlocks};
 ghost use Rattle.rules.specs.Chassis.{Block};
 ghost use Rattle.rules.specs.Order.{held, impossible, turn};
@@ -29,6 +29,7 @@ ghost use Rattle.rules.specs.Formed.{homeOrCard};
 ghost use Rattle.engine.specs.Words.{view, cardsOf, waitingOf, requestAt, formed};
 ghost use Rattle.engine.specs.Ordering.{HomeIs, judgedFree, judged};
 
+// What is decided: a refusal, or the turn.
 pub(crate) enum Judged {
     No(Refusal),
     Yes(Turn),

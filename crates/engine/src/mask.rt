@@ -7,7 +7,7 @@ use rules::numbers::HOME;
 ghost use mathlib.Core.Path.{_≡_};
 ghost use mathlib.Core.Bool.{true, _||_};
 ghost use lib.Dec.{eqb};
-ghost use Prim.Native.Nat.{ℕ, _≤_};
+ghost use Prim.Native.Nat.{_≤_};
 ghost use Rattle.rules.specs.Numbers.{mostCards, home};
 ghost use Rattle.rules.specs.Masks.{has};
 ghost use Rattle.rules.specs.Chassis.{Block};

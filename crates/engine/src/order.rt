@@ -35,6 +35,7 @@ ghost use Rattle.engine.specs.Words.{view, waitingOf, requestAt, formed}
 ghost use Rattle.engine.specs.Parts.{Does};
 ghost use Rattle.engine.specs.Ordering.{judged};
 
+// Refusal 8 first; then what is decided of the head.
 pub(crate) fn order(s: &mut [u64; WORDS]) -> Answer
     requires { ⌜ formed (now s) ≡ true ⌝ }
     ensures { λ r. ⌜ Does (now (s .entry)) Order r (now (s .exit)) ⌝ }

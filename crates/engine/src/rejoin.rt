@@ -24,6 +24,7 @@ ghost use Rattle.engine.specs.Words.{words, view, blocksOf, formed};
 ghost use Rattle.engine.specs.Parts.{Does};
 ghost use Rattle.engine.specs.Leaving.{homeLeft, HomeFits, HomesFit, blockLeft, blocksLeft, lineLeft, BecomesIf};
 
+// The card leaves the line and every block.
 pub(crate) fn rejoin(s: &mut [u64; WORDS], card: u8) -> Answer
     requires { ⌜ formed (now s) ≡ true ⌝ }
     ensures { λ r. ⌜ Does (now (s .entry)) (Rejoin card) r (now (s .exit)) ⌝ }

@@ -21,6 +21,7 @@ ghost use mathlib.Core.Path.{_≡_};
 ghost use lib.ListN.{set};
 ghost use Prim.Native.Nat.{_<_};
 ghost use Rattle.rules.specs.Numbers.{mostCards, mostBlocks, room};
+ghost use Rattle.engine.specs.Layout.{cardsAt, blocksAt, waitingAt, pooledAt, lastAt};
 ghost use Rattle.engine.specs.Words.{
   cardsOf,
   blocksOf,
@@ -36,12 +37,19 @@ ghost use Rattle.engine.specs.Words.{
 };
 ghost use Rattle.engine.specs.Parts.{putCell, putHome, putRequest, putMessage};
 
+// A field of a byte or of 32 bits is what its word is below these.
+const BYTE: u64 = 256;
+
+const HALF: u64 = 4294967296;
+
 // Home's part of a block.
 pub(crate) struct Home {
     pub memory: u32,
     pub owner: u8,
     pub sharers: u8,
 }
+
+// The header
 
 pub(crate) fn cards(s: &[u64; WORDS]) -> u64
     ensures { λ r. ⌜ r ≡ cardsOf (now (s .entry)) ⌝ }
@@ -73,18 +81,20 @@ pub(crate) fn last(s: &[u64; WORDS]) -> OrderNo
     OrderNo(s[LAST_AT])
 }
 
+// What a card has for a block: each field is its word below 2^8 or 2^32.
 pub(crate) fn cell_at(s: &[u64; WORDS], card: u8, block: u8) -> Cell
     requires { ⌜ (card < mostCards) × (block < mostBlocks) ⌝ }
     ensures { λ r. ⌜ r ≡ cellAt (now (s .entry)) card block ⌝ }
 {
     let p = HEAD + BLOCK_WORDS * (block as usize) + HOME_WORDS + CELL_WORDS * (card as usize);
     Cell {
-        state: (s[p] % 256) as u8,
-        value: (s[p + 1] % 4294967296) as u32,
+        state: (s[p] % BYTE) as u8,
+        value: (s[p + 1] % HALF) as u32,
         awaits: OrderNo(s[p + 2]),
     }
 }
 
+// What home has for a block.
 pub(crate) fn home_at(s: &[u64; WORDS], block: u8) -> Home
     requires { ⌜ block < mostBlocks ⌝ }
     ensures { λ r. ⌜ (r .memory ≡ memoryAt (now (s .entry)) block) × (r .owner ≡ ownerAt (now (s .entry)) block)
@@ -92,66 +102,70 @@ pub(crate) fn home_at(s: &[u64; WORDS], block: u8) -> Home
 {
     let p = HEAD + BLOCK_WORDS * (block as usize);
     Home {
-        memory: (s[p] % 4294967296) as u32,
-        owner: (s[p + 1] % 256) as u8,
-        sharers: (s[p + 2] % 256) as u8,
+        memory: (s[p] % HALF) as u32,
+        owner: (s[p + 1] % BYTE) as u8,
+        sharers: (s[p + 2] % BYTE) as u8,
     }
 }
 
+// A place of the line.
 pub(crate) fn request_at(s: &[u64; WORDS], place: usize) -> Request
     requires { ⌜ place < room ⌝ }
     ensures { λ r. ⌜ r ≡ requestAt (now (s .entry)) place ⌝ }
 {
     let p = LINE + PLACE_WORDS * place;
     Request {
-        card: (s[p] % 256) as u8,
-        block: (s[p + 1] % 256) as u8,
-        kind: (s[p + 2] % 256) as u8,
-        mask: (s[p + 3] % 256) as u8,
-        retry: RetryNo((s[p + 4] % 256) as u8),
+        card: (s[p] % BYTE) as u8,
+        block: (s[p + 1] % BYTE) as u8,
+        kind: (s[p + 2] % BYTE) as u8,
+        mask: (s[p + 3] % BYTE) as u8,
+        retry: RetryNo((s[p + 4] % BYTE) as u8),
     }
 }
 
+// A place of the pool.
 pub(crate) fn message_at(s: &[u64; WORDS], place: usize) -> Message
     requires { ⌜ place < room ⌝ }
     ensures { λ r. ⌜ r ≡ messageAt (now (s .entry)) place ⌝ }
 {
     let p = POOL + PLACE_WORDS * place;
     Message {
-        sender: (s[p] % 256) as u8,
-        receiver: (s[p + 1] % 256) as u8,
-        block: (s[p + 2] % 256) as u8,
-        value: (s[p + 3] % 4294967296) as u32,
+        sender: (s[p] % BYTE) as u8,
+        receiver: (s[p + 1] % BYTE) as u8,
+        block: (s[p + 2] % BYTE) as u8,
+        value: (s[p + 3] % HALF) as u32,
         number: OrderNo(s[p + 4]),
     }
 }
 
+// Stores: each writes the words of what it names, and no other.
+
 pub(crate) fn set_cards(s: &mut [u64; WORDS], n: u64)
-    ensures { λ _. ⌜ now (s .exit) ≡ set (now (s .entry)) 0 n ⌝ }
+    ensures { λ _. ⌜ now (s .exit) ≡ set (now (s .entry)) cardsAt n ⌝ }
 {
     s[CARDS_AT] = n;
 }
 
 pub(crate) fn set_blocks(s: &mut [u64; WORDS], n: u64)
-    ensures { λ _. ⌜ now (s .exit) ≡ set (now (s .entry)) 1 n ⌝ }
+    ensures { λ _. ⌜ now (s .exit) ≡ set (now (s .entry)) blocksAt n ⌝ }
 {
     s[BLOCKS_AT] = n;
 }
 
 pub(crate) fn set_waiting(s: &mut [u64; WORDS], n: u64)
-    ensures { λ _. ⌜ now (s .exit) ≡ set (now (s .entry)) 2 n ⌝ }
+    ensures { λ _. ⌜ now (s .exit) ≡ set (now (s .entry)) waitingAt n ⌝ }
 {
     s[WAITING_AT] = n;
 }
 
 pub(crate) fn set_pooled(s: &mut [u64; WORDS], n: u64)
-    ensures { λ _. ⌜ now (s .exit) ≡ set (now (s .entry)) 3 n ⌝ }
+    ensures { λ _. ⌜ now (s .exit) ≡ set (now (s .entry)) pooledAt n ⌝ }
 {
     s[POOLED_AT] = n;
 }
 
 pub(crate) fn set_last(s: &mut [u64; WORDS], n: OrderNo)
-    ensures { λ _. ⌜ now (s .exit) ≡ set (now (s .entry)) 4 (n .0) ⌝ }
+    ensures { λ _. ⌜ now (s .exit) ≡ set (now (s .entry)) lastAt (n .0) ⌝ }
 {
     s[LAST_AT] = n.0;
 }
