@@ -29,42 +29,42 @@ use rules::numbers::SM_D;
 ghost use Prim.Native.Nat.{_<_};
 
 // A word at a place; a place that is not there is left out.
-pub fn set(w: &mut [u64; WORDS], at: usize, value: u64) {
+pub(crate) fn set(w: &mut [u64; WORDS], at: usize, value: u64) {
     if at < WORDS {
         w[at] = value;
     }
 }
 
 // Where home's part of a block begins: memory, owner, sharers.
-pub fn home_at(block: u8) -> usize
+pub(crate) fn home_at(block: u8) -> usize
     ensures { λ r. ⌜ r < 10000 ⌝ }
 {
     HEAD + BLOCK_WORDS * (block as usize)
 }
 
 // Where a card's cell for a block begins: state, value, awaited number.
-pub fn cell_at(card: u8, block: u8) -> usize
+pub(crate) fn cell_at(card: u8, block: u8) -> usize
     ensures { λ r. ⌜ r < 10000 ⌝ }
 {
     HEAD + BLOCK_WORDS * (block as usize) + HOME_WORDS + CELL_WORDS * (card as usize)
 }
 
 // Where a place of the line begins: card, block, kind, mask, retry.
-pub fn request_at(place: u8) -> usize
+pub(crate) fn request_at(place: u8) -> usize
     ensures { λ r. ⌜ r < 10000 ⌝ }
 {
     LINE + PLACE_WORDS * (place as usize)
 }
 
 // Where a place of the pool begins: sender, receiver, block, value, number.
-pub fn message_at(place: u8) -> usize
+pub(crate) fn message_at(place: u8) -> usize
     ensures { λ r. ⌜ r < 10000 ⌝ }
 {
     POOL + PLACE_WORDS * (place as usize)
 }
 
 // Home's part of a block.
-pub fn set_home(w: &mut [u64; WORDS], block: u8, memory: u64, owner: u64, sharers: u64) {
+pub(crate) fn set_home(w: &mut [u64; WORDS], block: u8, memory: u64, owner: u64, sharers: u64) {
     let p = home_at(block);
     set(w, p, memory);
     set(w, p + 1, owner);
@@ -72,7 +72,14 @@ pub fn set_home(w: &mut [u64; WORDS], block: u8, memory: u64, owner: u64, sharer
 }
 
 // A card's cell for a block.
-pub fn set_cell(w: &mut [u64; WORDS], card: u8, block: u8, state: u8, value: u64, awaits: u64) {
+pub(crate) fn set_cell(
+    w: &mut [u64; WORDS],
+    card: u8,
+    block: u8,
+    state: u8,
+    value: u64,
+    awaits: u64,
+) {
     let p = cell_at(card, block);
     set(w, p, state as u64);
     set(w, p + 1, value);
@@ -80,7 +87,14 @@ pub fn set_cell(w: &mut [u64; WORDS], card: u8, block: u8, state: u8, value: u64
 }
 
 // A request at a place of the line, with retry 0.
-pub fn set_request(w: &mut [u64; WORDS], place: u8, card: u8, block: u8, kind: u8, mask: u8) {
+pub(crate) fn set_request(
+    w: &mut [u64; WORDS],
+    place: u8,
+    card: u8,
+    block: u8,
+    kind: u8,
+    mask: u8,
+) {
     let p = request_at(place);
     set(w, p, card as u64);
     set(w, p + 1, block as u64);
@@ -90,12 +104,12 @@ pub fn set_request(w: &mut [u64; WORDS], place: u8, card: u8, block: u8, kind: u
 }
 
 // A retry number at a place of the line.
-pub fn set_retry(w: &mut [u64; WORDS], place: u8, retry: u8) {
+pub(crate) fn set_retry(w: &mut [u64; WORDS], place: u8, retry: u8) {
     set(w, request_at(place) + 4, retry as u64);
 }
 
 // A message at a place of the pool.
-pub fn set_message(
+pub(crate) fn set_message(
     w: &mut [u64; WORDS],
     place: u8,
     sender: u8,
@@ -113,14 +127,14 @@ pub fn set_message(
 }
 
 // The counts of the line and of the pool, and the last order number.
-pub fn set_counts(w: &mut [u64; WORDS], waiting: u64, pooled: u64, last: u64) {
+pub(crate) fn set_counts(w: &mut [u64; WORDS], waiting: u64, pooled: u64, last: u64) {
     w[WAITING_AT] = waiting;
     w[POOLED_AT] = pooled;
     w[LAST_AT] = last;
 }
 
 // What Start is to make: all cells I, memory 0, owners home, the rest empty, unused places too.
-pub fn fresh(cards: u64, blocks: u64) -> [u64; WORDS] {
+pub(crate) fn fresh(cards: u64, blocks: u64) -> [u64; WORDS] {
     let mut w = [0u64; WORDS];
     w[CARDS_AT] = cards;
     w[BLOCKS_AT] = blocks;
@@ -133,7 +147,7 @@ pub fn fresh(cards: u64, blocks: u64) -> [u64; WORDS] {
 }
 
 // A chassis of 8 cards and 32 blocks whose line is full: each card waits with GETS for blocks 0 to 7.
-pub fn full_line() -> [u64; WORDS] {
+pub(crate) fn full_line() -> [u64; WORDS] {
     let mut w = fresh(8, 32);
     let mut i: u8 = 0;
     while i < 64 {
@@ -146,7 +160,7 @@ pub fn full_line() -> [u64; WORDS] {
 }
 
 // A chassis of 2 cards and 1 block whose pool is full: card 0 in IM_D awaits each of the 64 messages.
-pub fn full_pool() -> [u64; WORDS] {
+pub(crate) fn full_pool() -> [u64; WORDS] {
     let mut w = fresh(2, 1);
     set_home(&mut w, 0, 0, 0, 0);
     set_cell(&mut w, 0, 0, IM_D, 0, 1);
@@ -160,7 +174,7 @@ pub fn full_pool() -> [u64; WORDS] {
 }
 
 // A chassis of 3 cards and 4 blocks with much under way: every state stands in some cell, and 2 wait in the line and in the pool.
-pub fn running() -> [u64; WORDS] {
+pub(crate) fn running() -> [u64; WORDS] {
     let mut w = fresh(3, 4);
     set_home(&mut w, 0, 5, 0, 0);
     set_cell(&mut w, 0, 0, M, 7, 0);

@@ -4,7 +4,7 @@ use crate::build::running;
 use crate::build::set_cell;
 use crate::build::set_counts;
 use crate::build::set_request;
-use crate::marks::started;
+use crate::report::started;
 use crate::report::tell;
 use engine::events;
 use rules::numbers::GETS;
@@ -12,7 +12,8 @@ use rules::numbers::IS_AD;
 use rules::numbers::M;
 use rules::numbers::PUTX;
 
-pub fn run() {
+// Each event in a row.
+pub(crate) fn run() {
     starts();
     loads();
     stores();
@@ -58,7 +59,7 @@ fn drop(name: &[u8], card: u8, block: u8) {
     tell(b"drop", name, answer, &state, &before);
 }
 
-// Load, Store and Drop: 1, then 2, then 3.
+// Load: 1, then 2, then 3.
 fn loads() {
     load(b"by card 255", 255, 0);
     load(b"by card 3", 3, 0);
@@ -68,6 +69,7 @@ fn loads() {
     load(b"without the right", 2, 0);
 }
 
+// Store: 1, then 2, then 3.
 fn stores() {
     store(b"by card 255", 255, 0);
     store(b"by card 3", 3, 0);
@@ -77,6 +79,7 @@ fn stores() {
     store(b"without the right", 2, 0);
 }
 
+// Drop: 1, then 2, then 3.
 fn drops() {
     drop(b"by card 255", 255, 0);
     drop(b"by card 3", 3, 0);

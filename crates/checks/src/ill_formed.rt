@@ -1,4 +1,4 @@
-// Refusal 15: each clause broken by one word of a chassis that is formed. A line has the refusals of all eight events.
+// Refusal 15: each clause broken by one word of a chassis that is formed. A line has nine refusals: of the eight events, and of a load by `step`.
 use crate::build::cell_at;
 use crate::build::fresh;
 use crate::build::full_line;
@@ -20,6 +20,7 @@ use engine::layout::LAST_AT;
 use engine::layout::POOLED_AT;
 use engine::layout::WAITING_AT;
 use engine::layout::WORDS;
+use engine::start::start;
 use rules::kinds::Answer;
 use rules::kinds::Event;
 use rules::numbers::GETS;
@@ -27,8 +28,10 @@ use rules::numbers::GETS;
 // The widest word.
 const WIDEST: u64 = 18446744073709551615;
 
-pub fn run() {
+// Each clause of 15 in a row.
+pub(crate) fn run() {
     formed();
+    refused_start();
     sizes();
     counts();
     codes();
@@ -43,6 +46,10 @@ pub fn run() {
     unused_places();
     wide_blocks();
     wide_places();
+    wide_header();
+    wide_unused_blocks();
+    wide_unused_requests();
+    wide_unused_messages();
 }
 
 // The refusal's number, or 0.
@@ -88,6 +95,15 @@ fn broken(name: &[u8], w: [u64; WORDS], at: usize, value: u64) {
     set(&mut before, at, value);
     let mut state = before;
     tell_all(name, &mut state);
+    end(b", unchanged", first_difference(&state, &before));
+}
+
+// The state that a refused Start answers, "one of 0 cards and 0 blocks".
+fn refused_start() {
+    let made = start(0, 0);
+    let before = made.state;
+    let mut state = before;
+    tell_all(b"refused start", &mut state);
     end(b", unchanged", first_difference(&state, &before));
 }
 
@@ -260,4 +276,100 @@ fn wide_places() {
     broken(b"wide receiver", running(), message_at(0) + 1, 257);
     broken(b"wide sent block", running(), message_at(0) + 2, 257);
     broken(b"wide sent value", running(), message_at(0) + 3, 4294967296);
+}
+
+// A word too large for its field, which is sound below that: of the header
+fn wide_header() {
+    broken(b"wide cards", fresh(1, 1), CARDS_AT, 257);
+    broken(b"wide blocks", fresh(1, 1), BLOCKS_AT, 257);
+    broken(b"wide waiting", fresh(1, 1), WAITING_AT, 256);
+    broken(b"wide pooled", fresh(1, 1), POOLED_AT, 256);
+}
+
+// A word too large for its field, which is as Start makes it below that: of an unused cell or block
+fn wide_unused_blocks() {
+    broken(b"unused card, wide state", running(), cell_at(3, 0), 256);
+    broken(
+        b"unused card, wide value",
+        running(),
+        cell_at(3, 0) + 1,
+        4294967296,
+    );
+    broken(
+        b"unused block, wide memory",
+        running(),
+        home_at(4),
+        4294967296,
+    );
+    broken(b"unused block, wide owner", running(), home_at(4) + 1, 511);
+    broken(
+        b"unused block, wide sharers",
+        running(),
+        home_at(4) + 2,
+        256,
+    );
+    broken(b"unused block, wide state", running(), cell_at(0, 4), 256);
+    broken(
+        b"unused block, wide value",
+        running(),
+        cell_at(0, 4) + 1,
+        4294967296,
+    );
+}
+
+// A word too large for its field, which is as Start makes it below that: of an unused place of the line
+fn wide_unused_requests() {
+    broken(b"unused request, wide card", running(), request_at(2), 256);
+    broken(
+        b"unused request, wide block",
+        running(),
+        request_at(2) + 1,
+        256,
+    );
+    broken(
+        b"unused request, wide kind",
+        running(),
+        request_at(2) + 2,
+        256,
+    );
+    broken(
+        b"unused request, wide mask",
+        running(),
+        request_at(2) + 3,
+        256,
+    );
+    broken(
+        b"unused request, wide retry",
+        running(),
+        request_at(2) + 4,
+        256,
+    );
+}
+
+// A word too large for its field, which is as Start makes it below that: of an unused place of the pool
+fn wide_unused_messages() {
+    broken(
+        b"unused message, wide sender",
+        running(),
+        message_at(2),
+        256,
+    );
+    broken(
+        b"unused message, wide receiver",
+        running(),
+        message_at(2) + 1,
+        256,
+    );
+    broken(
+        b"unused message, wide block",
+        running(),
+        message_at(2) + 2,
+        256,
+    );
+    broken(
+        b"unused message, wide value",
+        running(),
+        message_at(2) + 3,
+        4294967296,
+    );
 }

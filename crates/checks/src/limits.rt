@@ -22,12 +22,17 @@ use rules::numbers::I;
 use rules::numbers::IM_AD;
 use rules::numbers::IM_D;
 use rules::numbers::IS_AD;
-use rules::numbers::LAST_NUMBER;
 use rules::numbers::M;
 use rules::numbers::MI_A;
 use rules::numbers::PUTX;
 
-pub fn run() {
+// 2^64 - 1, the last order number of all, and the one before it: written out, not taken from the engine.
+const LAST: u64 = 18446744073709551615;
+
+const LAST_BUT_ONE: u64 = 18446744073709551614;
+
+// Each limit in a row.
+pub(crate) fn run() {
     line_full();
     numbers_spent();
     pool_full();
@@ -68,7 +73,7 @@ fn last_but_one() -> [u64; WORDS] {
     let mut w = fresh(2, 1);
     set_cell(&mut w, 0, 0, IM_AD, 0, 0);
     set_request(&mut w, 0, 0, 0, GETX, 0);
-    set_counts(&mut w, 1, 0, LAST_NUMBER - 1);
+    set_counts(&mut w, 1, 0, LAST_BUT_ONE);
     w
 }
 
@@ -76,11 +81,11 @@ fn last_but_one() -> [u64; WORDS] {
 fn numbers_spent() {
     let mut state = last_but_one();
     let mut expected = last_but_one();
-    set_cell(&mut expected, 0, 0, IM_D, 0, LAST_NUMBER);
+    set_cell(&mut expected, 0, 0, IM_D, 0, LAST);
     set_home(&mut expected, 0, 0, 0, 0);
     set_request(&mut expected, 0, 0, 0, 0, 0);
-    set_message(&mut expected, 0, HOME, 0, 0, 0, LAST_NUMBER);
-    set_counts(&mut expected, 0, 1, LAST_NUMBER);
+    set_message(&mut expected, 0, HOME, 0, 0, 0, LAST);
+    set_counts(&mut expected, 0, 1, LAST);
     play(b"numbers", b"order", &mut state, Event::Order, &expected);
     play(
         b"numbers",
@@ -96,7 +101,7 @@ fn numbers_spent() {
 fn one_more(state: &mut [u64; WORDS], expected: &mut [u64; WORDS]) {
     set_cell(expected, 1, 0, IS_AD, 0, 0);
     set_request(expected, 0, 1, 0, GETS, 1);
-    set_counts(expected, 1, 1, LAST_NUMBER);
+    set_counts(expected, 1, 1, LAST);
     let asked = events::ask(state, 1, 0, GETS, 1);
     tell(b"numbers", b"ask", asked, state, expected);
     play(
@@ -108,7 +113,7 @@ fn one_more(state: &mut [u64; WORDS], expected: &mut [u64; WORDS]) {
     );
     set_cell(expected, 0, 0, M, 0, 0);
     set_message(expected, 0, 0, 0, 0, 0, 0);
-    set_counts(expected, 1, 0, LAST_NUMBER);
+    set_counts(expected, 1, 0, LAST);
     let delivered = events::deliver(state, 0);
     tell(b"numbers", b"deliver", delivered, state, expected);
     play(
@@ -130,7 +135,7 @@ fn full_and_waiting(owner_state: u8, card: u8, card_state: u8, kind: u8) -> [u64
     w
 }
 
-// Order of GETS and GETX is refused 10, though the mask is too small to be granted; PUTX needs no room.
+// Order of GETS and GETX is refused 10, though the mask is too small to be granted; 13 comes before that, and PUTX needs no room.
 fn pool_full() {
     let gets = full_and_waiting(M, 1, IS_AD, GETS);
     let mut state = gets;
@@ -138,9 +143,19 @@ fn pool_full() {
     let getx = full_and_waiting(M, 1, IM_AD, GETX);
     state = getx;
     play(b"pool", b"order GETX", &mut state, Event::Order, &getx);
+    let strange = full_and_waiting(M, 1, I, GETS);
+    state = strange;
+    play(
+        b"pool",
+        b"order GETS from 0",
+        &mut state,
+        Event::Order,
+        &strange,
+    );
     state = full_and_waiting(MI_A, 0, MI_A, PUTX);
+    set_cell(&mut state, 0, 0, MI_A, 6, 0);
     let mut expected = full_and_waiting(I, 0, I, PUTX);
-    set_home(&mut expected, 0, 0, HOME as u64, 0);
+    set_home(&mut expected, 0, 6, HOME as u64, 0);
     set_request(&mut expected, 0, 0, 0, 0, 0);
     set_counts(&mut expected, 0, 64, 2);
     play(b"pool", b"order PUTX", &mut state, Event::Order, &expected);

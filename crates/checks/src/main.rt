@@ -5,10 +5,13 @@ mod ill_formed;
 mod limits;
 mod marks;
 mod report;
+mod turns;
 
+// Each group of checks in a row.
 fn main() {
     marks::run();
     limits::run();
+    turns::run();
     ill_formed::run();
     extremes::run();
 }

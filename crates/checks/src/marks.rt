@@ -7,16 +7,12 @@ use crate::build::set_home;
 use crate::build::set_message;
 use crate::build::set_request;
 use crate::build::set_retry;
-use crate::report::begin;
 use crate::report::counted;
-use crate::report::end;
-use crate::report::first_difference;
 use crate::report::play;
-use crate::report::say;
+use crate::report::started;
 use crate::report::tell_count;
 use engine::events;
 use engine::layout::WORDS;
-use engine::start::start;
 use rules::kinds::Event;
 use rules::numbers::GETS;
 use rules::numbers::GETX;
@@ -34,7 +30,8 @@ use rules::numbers::S;
 use rules::numbers::SM_AD;
 use rules::numbers::SM_D;
 
-pub fn run() {
+// Each marked sequence in a row.
+pub(crate) fn run() {
     m1();
     m2();
     m3();
@@ -45,23 +42,6 @@ pub fn run() {
     m8();
     m9();
     m10();
-}
-
-// Starts a chassis, tells what came of it, and hands it on.
-pub fn started(
-    group: &[u8],
-    name: &[u8],
-    cards: u8,
-    blocks: u8,
-    expected: &[u64; WORDS],
-) -> [u64; WORDS] {
-    let made = start(cards, blocks);
-    let state = made.state;
-    begin(group, name);
-    let answer = made.answer;
-    say(answer);
-    end(b", words as expected", first_difference(&state, expected));
-    state
 }
 
 // "Start with 0 or 9 cards: 14. With 8 and 32: accepted; 33 blocks: 14."
