@@ -30,6 +30,7 @@ use Rattle.rules.specs.Order.{
 }
 use Rattle.rules.specs.Formed.{homeOrCard, unusedBlock, okRequest, okMessage, wellFormed}
 use Rattle.rules.specs.Events.{
+  EventFits,
   noCard,
   noBlock,
   rightReasons,
@@ -96,17 +97,6 @@ use Rattle.engine.specs.Words.{words, cellAt, messageAt as messageIn, po
 use Rattle.engine.specs.Parts.{act, Does}
 use Rattle.engine.proofs.Does.{sizes, step-act}
 use Rattle.engine.proofs.View.{cards-of, formed-chassis, formed-of, BlockFits, RequestFits, MessageFits, Fits, view-words}
-
--- the numbers of an event fit their kinds: a store's value has 32 bits
-abbrev pub EventFits : Event → Type 0
-EventFits (Load k b) = Unit {0}
-EventFits (Store k b v) = v < 2 ^ 32
-EventFits (Drop k b) = Unit {0}
-EventFits (Ask k b kind mask) = Unit {0}
-EventFits Order = Unit {0}
-EventFits (Deliver i) = Unit {0}
-EventFits (Copy i) = Unit {0}
-EventFits (Rejoin k) = Unit {0}
 
 -- What of fitting does not follow from being well formed: values have 32 bits, and what there is no room for is as Start makes it
 
@@ -244,11 +234,14 @@ chassis-fits c w h =
           (All-at LowMessage (c .pool) i _ l (h .messages));
     }
 
--- so its words are formed
-words-formed : (c : Chassis) → wellFormed c ≡ true → Kept c → formed (words c) ≡ true
-words-formed c h k =
+-- so its words are formed, and say it
+abbrev pub Says : Chassis → Type 0
+Says c = (formed (words c) ≡ true) × (view (words c) ≡ c)
+
+words-say : (c : Chassis) → wellFormed c ≡ true → Kept c → Says c
+words-say c h k =
     let again = view-words c (chassis-fits c (wf→ c h) k) in
-    formed-of (words c) (sym (ap words again)) (subst (λ d. wellFormed d ≡ true) (sym again) h)
+    (formed-of (words c) (sym (ap words again)) (subst (λ d. wellFormed d ≡ true) (sym again) h), again)
 
 -- What a turn leaves of cells, memory and pool
 
@@ -434,23 +427,23 @@ module _ {c : Chassis} (w : Wf c) (h : Kept c) where
 
 -- Formed words stay formed
 
--- an event keeps formed words formed
-pub keeps-formed : (w : List ℕ) (e : Event) → formed w ≡ true → EventFits e → formed (words (act (view w) e .after)) ≡ true
-keeps-formed w e h f =
+-- the words that an event leaves of formed words
+pub act-says : (w : List ℕ) (e : Event) → formed w ≡ true → EventFits e → Says (act (view w) e .after)
+act-says w e h f =
     let c = view w in
     let wf = formed-chassis w h in
-    words-formed (act c e .after)
+    words-say (act c e .after)
     (subst (λ (o : Result). wellFormed (o .after) ≡ true) (step-act c e wf) (stays-formed c e wf))
     (act-kept (wf→ c wf) (view-kept w) e f)
 
--- and so does what does an event
+-- what does an event leaves formed words formed
 pub does-formed : (w : List ℕ) (e : Event) (r : Answer) (w′ : List ℕ) → formed w ≡ true → EventFits e → Does w e r w′ → formed w′ ≡ true
-does-formed w e r w′ h f d = subst (λ (l : List ℕ). formed l ≡ true) (sym (d .after)) (keeps-formed w e h f)
+does-formed w e r w′ h f d = subst (λ (l : List ℕ). formed l ≡ true) (sym (d .after)) (act-says w e h f .0)
 
--- an accepted Start makes formed words
-pub start-formed-words : (cards blocks v : ℕ) → start cards blocks .answer ≡ Done v → formed (words (start cards blocks .after)) ≡ true
-start-formed-words cards blocks v = start-cases cards blocks (λ (o : Result). o .answer ≡ Done v → formed (words (o .after)) ≡ true)
-    (λ s _. words-formed (fresh cards blocks) (fresh-formed cards blocks s)
+-- the words that an accepted Start makes
+pub start-says : (cards blocks v : ℕ) → start cards blocks .answer ≡ Done v → Says (start cards blocks .after)
+start-says cards blocks v = start-cases cards blocks (λ (o : Result). o .answer ≡ Done v → Says (o .after))
+    (λ s _. words-say (fresh cards blocks) (fresh-formed cards blocks s)
     (record { blocks = λ _. fresh-within; beyond = λ _ _. refl; messages = tt }))
     (λ r e. absurd (refused≢done r v e))
 

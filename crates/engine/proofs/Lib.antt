@@ -18,3 +18,5 @@ pub mod Seeing
 pub mod Turned
 pub mod Ordered
 pub mod Started
+pub mod Told
+pub mod Went

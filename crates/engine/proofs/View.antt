@@ -2,18 +2,20 @@
 use Prim.Native.Nat.{ℕ, zero, suc, _+_, _*_, _^_, _≤_, _<_}
 use native.Mathlib.Nat.{add-zero, mod-eq-of-lt}
 use native.Mathlib.Omega.{arith}
-use mathlib.Core.Bool.{true, cond, true≢false}
+use mathlib.Core.Bool.{true, cond}
 use mathlib.Core.List.{List, [], _∷_}
 use mathlib.Core.Path.{_≡_, refl, sym, ap, _∙_, fun-ext}
 use lib.ListN.{length, getD}
-use lib.Dec.{eqb, ltb}
-use borrow.Author.Tests.{eqb-true, eq-eqb, lt-ltb, ltb-true, ltb-false}
+use lib.Dec.{ltb}
+use borrow.Author.Tests.{lt-ltb, ltb-true, ltb-false}
+use Rattle.rules.specs.Lists.{same}
 use Rattle.rules.specs.Numbers.{mostCards, mostBlocks, room}
 use Rattle.rules.specs.Chassis.{Block, Chassis, cellOf, idle, freshBlock}
 use Rattle.rules.specs.Formed.{wellFormed}
 use Rattle.rules.specs.declared.kinds.Cell.{Cell}
 use Rattle.rules.specs.declared.kinds.Request.{Request}
 use Rattle.rules.specs.declared.kinds.Message.{Message}
+use Rattle.rules.proofs.Lists.{same-eq, same-self}
 use Rattle.rules.proofs.Tests.{test, and-i, and-l, and-r}
 use Rattle.engine.specs.Layout.{blockAt, cellPlace, lineAt, poolAt, placeWords}
 use Rattle.engine.specs.Words.{
@@ -36,25 +38,12 @@ use Rattle.engine.specs.Words.{
   blockOf,
   first,
   view,
-  same,
   formed,
 }
 use Rattle.engine.specs.Parts.{CellFits}
 use Rattle.engine.proofs.Image.{plain, image, get-home, get-cell, get-request, get-message}
 
 -- What formed words are
-
-same-eq : (xs ys : List ℕ) → same xs ys ≡ true → xs ≡ ys
-unfolding same
-same-eq [] [] h = refl
-same-eq [] (y ∷ ys) h = absurd (true≢false (sym h))
-same-eq (x ∷ xs) [] h = absurd (true≢false (sym h))
-same-eq (x ∷ xs) (y ∷ ys) h = rw (eqb-true x y (and-l (eqb x y) (same xs ys) h), same-eq xs ys (and-r (eqb x y) (same xs ys) h))
-
-same-self : (xs : List ℕ) → same xs xs ≡ true
-unfolding same
-same-self [] = refl
-same-self (x ∷ xs) = rw (eq-eqb x x refl) (same-self xs)
 
 pub formed-words : (w : List ℕ) → formed w ≡ true → w ≡ words (view w)
 unfolding formed

@@ -2,8 +2,10 @@
 pub mod Layout
 pub mod Words
 pub mod Promise
+pub mod Running
 pub mod Parts
 pub mod Found
 pub mod Leaving
 pub mod Tested
 pub mod Ordering
+pub mod Telling

@@ -1,9 +1,10 @@
 -- The words of a chassis, the chassis that words say, and which words are formed.
 use Prim.Native.Nat.{ℕ, zero, suc, _+_, _*_, _%_, _^_}
-use mathlib.Core.Bool.{Bool, true, false, cond, _&&_}
+use mathlib.Core.Bool.{Bool, cond, _&&_}
 use mathlib.Core.List.{List, [], _∷_, _++_}
 use lib.ListN.{length, getD}
-use lib.Dec.{eqb, ltb}
+use lib.Dec.{ltb}
+use Rattle.rules.specs.Lists.{same}
 use Rattle.rules.specs.Numbers.{mostCards, mostBlocks, room}
 use Rattle.rules.specs.Chassis.{Block, Chassis, idle, freshBlock}
 use Rattle.rules.specs.Formed.{wellFormed}
@@ -144,13 +145,6 @@ view w = record {
 }
 
 -- 15
-
--- two lists of words are the same
-unfoldable pub same : List ℕ → List ℕ → Bool
-same [] [] = true
-same [] (y ∷ ys) = false
-same (x ∷ xs) [] = false
-same (x ∷ xs) (y ∷ ys) = eqb x y && same xs ys
 
 -- the words are those of the chassis that they say (each fits its field, and an unused place is all 0), and it is well formed
 unfoldable pub formed : List ℕ → Bool

@@ -11,6 +11,7 @@ mod order;
 mod places;
 mod pool;
 mod rejoin;
+pub mod run;
 mod sees;
 pub mod start;
 mod turns;

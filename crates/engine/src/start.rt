@@ -10,6 +10,7 @@ use rules::kinds::Refusal;
 use rules::numbers::HOME;
 use rules::numbers::MOST_BLOCKS;
 ghost use mathlib.Core.Path.{_≡_};
+ghost use Rattle.rules.specs.Chassis.{fresh};
 ghost use Rattle.rules.specs.Events.{start};
 ghost use Rattle.engine.specs.Words.{words};
 
@@ -24,10 +25,32 @@ pub fn start(cards: u8, blocks: u8) -> Started
     ensures { λ r. ⌜ (r .answer ≡ start cards blocks .answer) × (r .state ≡ words (start cards blocks .after)) ⌝ }
 {
     let mut state: [u64; WORDS] = [0; WORDS];
+    let answer = start_in(&mut state, cards, blocks);
+    Started { answer, state }
+}
+
+// The same, in words that the caller lends: what was in them is gone, also where it refuses.
+pub fn start_in(state: &mut [u64; WORDS], cards: u8, blocks: u8) -> Answer
+    ensures { λ r. ⌜ (r ≡ start cards blocks .answer) × (now (state .exit) ≡ words (start cards blocks .after)) ⌝ }
+{
+    start_none(state);
+    if !are_sizes(cards as u64, blocks as u64) {
+        return Answer::Refused(Refusal::NoSuchSize);
+    }
+    set_cards(state, cards as u64);
+    set_blocks(state, blocks as u64);
+    Answer::Done(0)
+}
+
+// The words of a chassis of no cards and no blocks.
+pub(crate) fn start_none(state: &mut [u64; WORDS])
+    ensures { λ _. ⌜ now (state .exit) ≡ words (fresh 0 0) ⌝ }
+{
+    *state = [0; WORDS];
     let mut block: u8 = 0;
     while block < MOST_BLOCKS {
         put_home(
-            &mut state,
+            state,
             block,
             Home {
                 memory: 0,
@@ -36,17 +59,5 @@ pub fn start(cards: u8, blocks: u8) -> Started
             },
         );
         block += 1;
-    }
-    if !are_sizes(cards as u64, blocks as u64) {
-        return Started {
-            answer: Answer::Refused(Refusal::NoSuchSize),
-            state,
-        };
-    }
-    set_cards(&mut state, cards as u64);
-    set_blocks(&mut state, blocks as u64);
-    Started {
-        answer: Answer::Done(0),
-        state,
     }
 }

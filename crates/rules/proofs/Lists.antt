@@ -1,15 +1,15 @@
 -- Laws of places of a function and of a list, and of what holds of each element.
 use Prim.Native.Nat.{ℕ, zero, suc, _≤_, _<_}
 use native.Mathlib.Omega.{arith}
-use mathlib.Core.Bool.{Bool, true}
+use mathlib.Core.Bool.{Bool, true, true≢false}
 use mathlib.Core.List.{List, [], _∷_, _++_, map, List·Memᴰ, List·Memᴰ·head, List·Memᴰ·tail}
-use mathlib.Core.Path.{_≡_, refl, ap, fun-ext}
+use mathlib.Core.Path.{_≡_, refl, sym, ap, fun-ext}
 use mathlib.Core.Logic.{_≢_}
-use lib.ListN.{length, getD}
+use lib.ListN.{length, getD, drop}
 use lib.Dec.{eqb}
 use borrow.Author.Tests.{eqb-true, eqb-false, eq-eqb}
-use Rattle.rules.specs.Lists.{replace, removed, keep, All}
-use Rattle.rules.proofs.Tests.{clash, test, cond-cases}
+use Rattle.rules.specs.Lists.{replace, removed, keep, All, same}
+use Rattle.rules.proofs.Tests.{clash, test, cond-cases, and-l, and-r}
 
 module _ {A : Type 0} where
   pub replace-cases : (P : A → Type 0) (f : ℕ → A) (i : ℕ) (x : A) (j : ℕ) → (i ≡ j → P x) → (i ≢ j → P (f j)) → P (replace f i x j)
@@ -47,6 +47,11 @@ module _ {A : Type 0} where
   All-removed P (suc i) [] h = tt
   All-removed P zero (x ∷ xs) h = h .1
   All-removed P (suc i) (x ∷ xs) h = (h .0, All-removed P i xs (h .1))
+
+  pub All-drop : (P : A → Type 0) (i : ℕ) (xs : List A) → All P xs → All P (drop i xs)
+  All-drop P zero xs h = h
+  All-drop P (suc i) [] h = tt
+  All-drop P (suc i) (x ∷ xs) h = All-drop P i xs (h .1)
 
   pub All-at : (P : A → Type 0) (xs : List A) (i : ℕ) (d : A) → i < length xs → All P xs → P (getD xs i d)
   All-at P [] i d l h = absurd (omega arith)
@@ -94,3 +99,17 @@ module _ {A : Type 0} where
   keep-short f [] = omega arith
   keep-short f (x ∷ xs) = let h = keep-short f xs in
       cond-cases (λ l. length l ≤ suc (length xs)) (f x) (x ∷ keep f xs) (keep f xs) (λ _. omega arith) (λ _. omega arith)
+
+-- Sameness
+
+pub same-eq : (xs ys : List ℕ) → same xs ys ≡ true → xs ≡ ys
+unfolding same
+same-eq [] [] h = refl
+same-eq [] (y ∷ ys) h = absurd (true≢false (sym h))
+same-eq (x ∷ xs) [] h = absurd (true≢false (sym h))
+same-eq (x ∷ xs) (y ∷ ys) h = rw (eqb-true x y (and-l (eqb x y) (same xs ys) h), same-eq xs ys (and-r (eqb x y) (same xs ys) h))
+
+pub same-self : (xs : List ℕ) → same xs xs ≡ true
+unfolding same
+same-self [] = refl
+same-self (x ∷ xs) = rw (eq-eqb x x refl) (same-self xs)

@@ -1,5 +1,5 @@
 -- "The events": for each, the reasons to refuse it in the paper's order, and what it does where none holds.
-use Prim.Native.Nat.{ℕ}
+use Prim.Native.Nat.{ℕ, _^_, _<_}
 use mathlib.Core.Bool.{Bool, cond, not, _&&_}
 use mathlib.Core.List.{List, [], _∷_, _++_}
 use lib.ListN.{length, getD}
@@ -155,6 +155,17 @@ rejoin c k = record {
 }
 
 -- Every event
+
+-- "A block holds one 32-bit value": the numbers of an event fit their kinds
+abbrev pub EventFits : Event → Type 0
+EventFits (Load k b) = Unit {0}
+EventFits (Store k b v) = v < 2 ^ 32
+EventFits (Drop k b) = Unit {0}
+EventFits (Ask k b kind mask) = Unit {0}
+EventFits Order = Unit {0}
+EventFits (Deliver i) = Unit {0}
+EventFits (Copy i) = Unit {0}
+EventFits (Rejoin k) = Unit {0}
 
 -- what an event answers and leaves where nothing refuses it
 unfoldable pub effect : Chassis → Event → Result

@@ -1,0 +1,10 @@
+pub mod Parts
+pub mod Tagged
+pub mod Front
+pub mod Puts
+pub mod Spelled
+pub mod Digits
+pub mod Held
+pub mod BigEndian
+pub mod Claims
+pub mod Pieces
