@@ -1,0 +1,59 @@
+//! The words of a command line.
+
+use std::ffi::OsString;
+
+/// The words not yet taken.
+pub struct Arguments {
+    words: Vec<String>,
+}
+
+impl Arguments {
+    /// The words of a command line, without the program's name.
+    pub fn new(words: impl IntoIterator<Item = OsString>) -> Result<Arguments, String> {
+        let words: Result<Vec<String>, OsString> =
+            words.into_iter().map(OsString::into_string).collect();
+        match words {
+            Ok(words) => Ok(Arguments { words }),
+            Err(word) => Err(format!("{} is not UTF-8", word.display())),
+        }
+    }
+
+    /// Takes the flag if it is there.
+    pub fn take_flag(&mut self, flag: &str) -> bool {
+        let found = self.words.iter().position(|word| word == flag);
+        found.map(|at| self.words.remove(at)).is_some()
+    }
+
+    /// Takes the option and the number after it if it is there.
+    pub fn take_number(&mut self, option: &str) -> Result<Option<u64>, String> {
+        let Some(at) = self.words.iter().position(|word| word == option) else {
+            return Ok(None);
+        };
+        self.words.remove(at);
+        if at == self.words.len() {
+            return Err(format!("{option} needs a number"));
+        }
+        let word = self.words.remove(at);
+        match word.parse() {
+            Ok(number) => Ok(Some(number)),
+            Err(_) => Err(format!("{option} needs a number, not {word}")),
+        }
+    }
+
+    /// Takes the next word, which is needed.
+    pub fn take_word(&mut self, what: &str) -> Result<String, String> {
+        match self.words.first() {
+            Some(word) if word.starts_with('-') => Err(format!("unknown option {word}")),
+            Some(_) => Ok(self.words.remove(0)),
+            None => Err(format!("{what} is missing")),
+        }
+    }
+
+    /// Says no to a word that is left.
+    pub fn end(&self) -> Result<(), String> {
+        match self.words.first() {
+            Some(word) => Err(format!("{word} is not understood")),
+            None => Ok(()),
+        }
+    }
+}
