@@ -68,7 +68,7 @@ fn files() -> Result<Vec<File>, String> {
     let (mut args, mut stdout) = (String::new(), String::new());
     let mut files = Vec::new();
     for picked in journals {
-        let name = format!("{DATA}/{}\n", picked.name);
+        let name = format!("{}\n", picked.name);
         args.push_str(&name);
         stdout.push_str(&name);
         stdout.push_str(&replay(&picked.journal));
