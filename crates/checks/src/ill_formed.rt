@@ -12,7 +12,6 @@ use crate::report::begin;
 use crate::report::end;
 use crate::report::first_difference;
 use crate::report::number;
-use crate::report::number_of;
 use engine::events;
 use engine::layout::BLOCKS_AT;
 use engine::layout::CARDS_AT;
@@ -21,6 +20,7 @@ use engine::layout::POOLED_AT;
 use engine::layout::WAITING_AT;
 use engine::layout::WORDS;
 use engine::start::start;
+use journal::numbers::refusal_of;
 use rules::kinds::Answer;
 use rules::kinds::Event;
 use rules::numbers::GETS;
@@ -52,26 +52,23 @@ pub(crate) fn run() {
     wide_unused_messages();
 }
 
-// The refusal's number, or 0.
-fn refusal_of(answer: Answer) -> u64 {
-    match answer {
-        Answer::Done(_) => 0,
-        Answer::Refused(refusal) => number_of(refusal),
-    }
+// The refusal's number, or 0, as a number to tell.
+fn refused(answer: Answer) -> u64 {
+    refusal_of(answer) as u64
 }
 
 // The refusals of the eight events in a row, each of what the one before left, and then that of a load by `step`.
 fn tell_all(name: &[u8], w: &mut [u64; WORDS]) {
     begin(b"15", name);
-    number(refusal_of(events::load(w, 0, 0)));
-    number(refusal_of(events::store(w, 0, 0, 1)));
-    number(refusal_of(events::drop(w, 0, 0)));
-    number(refusal_of(events::ask(w, 0, 0, GETS, 0)));
-    number(refusal_of(events::order(w)));
-    number(refusal_of(events::deliver(w, 0)));
-    number(refusal_of(events::copy(w, 0)));
-    number(refusal_of(events::rejoin(w, 0)));
-    number(refusal_of(events::step(w, Event::Load { card: 0, block: 0 })));
+    number(refused(events::load(w, 0, 0)));
+    number(refused(events::store(w, 0, 0, 1)));
+    number(refused(events::drop(w, 0, 0)));
+    number(refused(events::ask(w, 0, 0, GETS, 0)));
+    number(refused(events::order(w)));
+    number(refused(events::deliver(w, 0)));
+    number(refused(events::copy(w, 0)));
+    number(refused(events::rejoin(w, 0)));
+    number(refused(events::step(w, Event::Load { card: 0, block: 0 })));
 }
 
 // The chassis that are broken below, as they are: no 15.
