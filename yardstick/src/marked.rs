@@ -50,10 +50,17 @@ fn m2() -> Vec<Step> {
     ]
 }
 
-/// A mask that is too small, then one that suffices.
+/// A mask that is too small, then one that suffices: card 1 gets the 7 that
+/// card 0 stored.
 fn m3() -> Vec<Step> {
     let mut steps = m2();
-    steps.extend([(ask(1, 0, GETS, 0), 0, 0), (order(), 0, 2), (order(), 0, 1)]);
+    steps.extend([
+        (ask(1, 0, GETS, 0), 0, 0),
+        (order(), 0, 2),
+        (order(), 0, 1),
+        (deliver(0), 0, 1),
+        (load(1, 0), 0, 7),
+    ]);
     steps
 }
 

@@ -5,8 +5,9 @@
 use crate::characters::{CONTENTION, REJOINS};
 use crate::chassis::POOL_ROOM;
 use crate::generate::generate_of;
-use crate::journal::{Record, HEAD_LENGTH};
+use crate::journal::{Record, HEAD_LENGTH, MAX_RECORD_LENGTH};
 use crate::marked::marked_sequences;
+use crate::replay::JOURNAL_LIMIT;
 use crate::script::{ask, copy, deliver, drop_copy, journal_of, load, order, rejoin, start, store};
 use crate::table::{GETS, GETX, PUTX};
 
@@ -27,6 +28,7 @@ pub fn picked_journals() -> Vec<Picked> {
     }
     all.extend(written_by_hand());
     all.extend(damaged());
+    all.extend(damaged_at_once());
     all.extend([
         picked("contention_1", generate_of(&CONTENTION, 1, EVENTS)),
         picked("rejoins_1", generate_of(&REJOINS, 1, EVENTS)),
@@ -40,7 +42,7 @@ fn picked(name: &'static str, journal: Vec<u8>) -> Picked {
 }
 
 /// The journals written by hand that have no damage.
-fn written_by_hand() -> [Picked; 7] {
+fn written_by_hand() -> [Picked; 8] {
     [
         picked("no_cards", journal_of([start(0, 1), order()])),
         picked("too_many_blocks", journal_of([start(8, 33), order()])),
@@ -49,6 +51,7 @@ fn written_by_hand() -> [Picked; 7] {
         picked("full_pool", journal_of(full_pool())),
         picked("last_retry_gets", journal_of(last_retry(GETS))),
         picked("last_retry_getx", journal_of(last_retry(GETX))),
+        picked("longer_than_read", journal_of(longer_than_read())),
     ]
 }
 
@@ -74,6 +77,19 @@ fn damaged() -> [Picked; 8] {
         picked("unknown_tag", and(&[0x18, 0, 0])),
         picked("wrong_length", and(&[0x14, 1, 0])),
         picked("wrong_opening", wrong_opening),
+    ]
+}
+
+/// The journals with the damage in the first record. What follows it, if
+/// anything, is sound.
+fn damaged_at_once() -> [Picked; 3] {
+    let good = journal_of([start(2, 1), order()]);
+    let mut wrong_length = good.clone();
+    wrong_length[HEAD_LENGTH - 1] += 1;
+    [
+        picked("first_cut_in_its_head", good[..HEAD_LENGTH - 1].to_vec()),
+        picked("first_tag_unknown", [&[0x18, 0, 0], &good[..]].concat()),
+        picked("first_of_wrong_length", wrong_length),
     ]
 }
 
@@ -181,5 +197,14 @@ fn last_retry(kind: u8) -> Vec<Record> {
     }
     records.extend([copy(0); POOL_ROOM - 1]);
     records.extend([order(), deliver(0), order(), deliver(63), load(1, 0)]);
+    records
+}
+
+/// More bytes than are read. Stores are the longest events, so the lines are
+/// few; one store has its first two bytes before the limit and the rest past
+/// it.
+fn longer_than_read() -> Vec<Record> {
+    let mut records = vec![start(1, 1), ask(0, 0, GETX, 0), order(), deliver(0)];
+    records.extend([store(0, 0, 7); JOURNAL_LIMIT / MAX_RECORD_LENGTH]);
     records
 }

@@ -95,6 +95,31 @@ fn broken(name: &[u8], w: [u64; WORDS], at: usize, value: u64) {
     end(b", unchanged", first_difference(&state, &before));
 }
 
+// The same on the running chassis: a word of home's part of a block.
+fn home(name: &[u8], block: u8, field: u8, value: u64) {
+    broken(name, running(), home_at(block) + field as usize, value);
+}
+
+// A word of a card's cell for a block.
+fn cell(name: &[u8], card: u8, block: u8, field: u8, value: u64) {
+    broken(
+        name,
+        running(),
+        cell_at(card, block) + field as usize,
+        value,
+    );
+}
+
+// A word of a place of the line.
+fn request(name: &[u8], place: u8, field: u8, value: u64) {
+    broken(name, running(), request_at(place) + field as usize, value);
+}
+
+// A word of a place of the pool.
+fn message(name: &[u8], place: u8, field: u8, value: u64) {
+    broken(name, running(), message_at(place) + field as usize, value);
+}
+
 // The state that a refused Start answers, "one of 0 cards and 0 blocks".
 fn refused_start() {
     let made = start(0, 0);
@@ -128,151 +153,136 @@ fn counts() {
 
 // "a .. code .. out of range": a state, a kind
 fn codes() {
-    broken(b"state 11", running(), cell_at(1, 0), 11);
-    broken(b"state 255", running(), cell_at(1, 0), 255);
-    broken(b"kind 0", running(), request_at(0) + 2, 0);
-    broken(b"kind 4", running(), request_at(0) + 2, 4);
-    broken(b"kind 255", running(), request_at(0) + 2, 255);
+    cell(b"state 11", 1, 0, 0, 11);
+    cell(b"state 255", 1, 0, 0, 255);
+    request(b"kind 0", 0, 2, 0);
+    request(b"kind 4", 0, 2, 4);
+    request(b"kind 255", 0, 2, 255);
 }
 
 // "a .. card .. out of range": home only where a card number would stand for an owner or a sender
 fn cards() {
-    broken(b"owner 3", running(), home_at(1) + 1, 3);
-    broken(b"owner 254", running(), home_at(1) + 1, 254);
-    broken(b"asker 3", running(), request_at(0), 3);
-    broken(b"asker 255", running(), request_at(0), 255);
-    broken(b"sender 3", running(), message_at(0), 3);
-    broken(b"sender 254", running(), message_at(0), 254);
-    broken(b"receiver 3", running(), message_at(0) + 1, 3);
-    broken(b"receiver 255", running(), message_at(0) + 1, 255);
+    home(b"owner 3", 1, 1, 3);
+    home(b"owner 254", 1, 1, 254);
+    request(b"asker 3", 0, 0, 3);
+    request(b"asker 255", 0, 0, 255);
+    message(b"sender 3", 0, 0, 3);
+    message(b"sender 254", 0, 0, 254);
+    message(b"receiver 3", 0, 1, 3);
+    message(b"receiver 255", 0, 1, 255);
 }
 
 // "a .. block .. out of range"
 fn blocks() {
-    broken(b"asked block 4", running(), request_at(0) + 1, 4);
-    broken(b"asked block 255", running(), request_at(0) + 1, 255);
-    broken(b"sent block 4", running(), message_at(0) + 2, 4);
-    broken(b"sent block 255", running(), message_at(0) + 2, 255);
+    request(b"asked block 4", 0, 1, 4);
+    request(b"asked block 255", 0, 1, 255);
+    message(b"sent block 4", 0, 2, 4);
+    message(b"sent block 255", 0, 2, 255);
 }
 
 // "a .. mask .. out of range"
 fn masks() {
-    broken(b"sharers 8", running(), home_at(1) + 2, 8);
-    broken(b"sharers 255", running(), home_at(1) + 2, 255);
-    broken(b"mask 8", running(), request_at(0) + 3, 8);
-    broken(b"mask 255", running(), request_at(0) + 3, 255);
+    home(b"sharers 8", 1, 2, 8);
+    home(b"sharers 255", 1, 2, 255);
+    request(b"mask 8", 0, 3, 8);
+    request(b"mask 255", 0, 3, 255);
 }
 
 // "a .. retry (0 to 3) out of range", "a retry of 3 with a mask other than every card"
 fn retries() {
-    broken(b"retry 4", running(), request_at(1) + 4, 4);
-    broken(b"retry 255", running(), request_at(1) + 4, 255);
-    broken(b"retry 3 with mask 3", running(), request_at(1) + 3, 3);
-    broken(b"retry 3 with mask 0", running(), request_at(1) + 3, 0);
-    broken(b"retry 3 with mask 1", running(), request_at(0) + 4, 3);
+    request(b"retry 4", 1, 4, 4);
+    request(b"retry 255", 1, 4, 255);
+    request(b"retry 3 with mask 3", 1, 3, 3);
+    request(b"retry 3 with mask 0", 1, 3, 0);
+    request(b"retry 3 with mask 1", 0, 4, 3);
 }
 
 // "an order number above the last given, a message's number of 0, an awaited number of 0 in 6, 7 or 8"
 fn numbers() {
-    broken(
-        b"awaited 10 after 9, in 6",
-        running(),
-        cell_at(1, 1) + 2,
-        10,
-    );
-    broken(
-        b"awaited 10 after 9, in 7",
-        running(),
-        cell_at(1, 2) + 2,
-        10,
-    );
-    broken(
-        b"awaited 10 after 9, in 8",
-        running(),
-        cell_at(2, 3) + 2,
-        10,
-    );
-    broken(b"sent 10 after 9", running(), message_at(0) + 4, 10);
+    cell(b"awaited 10 after 9, in 6", 1, 1, 2, 10);
+    cell(b"awaited 10 after 9, in 7", 1, 2, 2, 10);
+    cell(b"awaited 10 after 9, in 8", 2, 3, 2, 10);
+    message(b"sent 10 after 9", 0, 4, 10);
     broken(b"last below an awaited number", running(), LAST_AT, 8);
-    broken(b"sent 0", running(), message_at(0) + 4, 0);
-    broken(b"awaited 0 in 6", running(), cell_at(1, 1) + 2, 0);
-    broken(b"awaited 0 in 7", running(), cell_at(1, 2) + 2, 0);
-    broken(b"awaited 0 in 8", running(), cell_at(2, 3) + 2, 0);
+    message(b"sent 0", 0, 4, 0);
+    cell(b"awaited 0 in 6", 1, 1, 2, 0);
+    cell(b"awaited 0 in 7", 1, 2, 2, 0);
+    cell(b"awaited 0 in 8", 2, 3, 2, 0);
 }
 
 // "The value is 0 in a state without Load"
 fn values() {
-    broken(b"value in 0", running(), cell_at(1, 0) + 1, 1);
-    broken(b"value in 3", running(), cell_at(2, 0) + 1, 1);
-    broken(b"value in 4", running(), cell_at(2, 1) + 1, 1);
-    broken(b"value in 6", running(), cell_at(1, 1) + 1, 1);
-    broken(b"value in 7", running(), cell_at(1, 2) + 1, 1);
-    broken(b"value in 10", running(), cell_at(0, 2) + 1, 1);
+    cell(b"value in 0", 1, 0, 1, 1);
+    cell(b"value in 3", 2, 0, 1, 1);
+    cell(b"value in 4", 2, 1, 1, 1);
+    cell(b"value in 6", 1, 1, 1, 1);
+    cell(b"value in 7", 1, 2, 1, 1);
+    cell(b"value in 10", 0, 2, 1, 1);
 }
 
 // "the awaited number is 0 outside states 6, 7 and 8"
 fn awaited() {
-    broken(b"awaited in 0", running(), cell_at(1, 0) + 2, 1);
-    broken(b"awaited in 1", running(), cell_at(0, 3) + 2, 1);
-    broken(b"awaited in 2", running(), cell_at(0, 0) + 2, 1);
-    broken(b"awaited in 3", running(), cell_at(2, 0) + 2, 1);
-    broken(b"awaited in 4", running(), cell_at(2, 1) + 2, 1);
-    broken(b"awaited in 5", running(), cell_at(1, 3) + 2, 1);
-    broken(b"awaited in 9", running(), cell_at(2, 2) + 2, 1);
-    broken(b"awaited in 10", running(), cell_at(0, 2) + 2, 1);
+    cell(b"awaited in 0", 1, 0, 2, 1);
+    cell(b"awaited in 1", 0, 3, 2, 1);
+    cell(b"awaited in 2", 0, 0, 2, 1);
+    cell(b"awaited in 3", 2, 0, 2, 1);
+    cell(b"awaited in 4", 2, 1, 2, 1);
+    cell(b"awaited in 5", 1, 3, 2, 1);
+    cell(b"awaited in 9", 2, 2, 2, 1);
+    cell(b"awaited in 10", 0, 2, 2, 1);
 }
 
 // "an unused place not as Start makes it": cells and blocks
 fn unused_blocks() {
-    broken(b"unused card, state", running(), cell_at(3, 0), 1);
-    broken(b"unused card, value", running(), cell_at(3, 0) + 1, 1);
-    broken(b"unused card, awaited", running(), cell_at(3, 0) + 2, 1);
-    broken(b"unused block, memory", running(), home_at(4), 1);
-    broken(b"unused block, owner", running(), home_at(4) + 1, 0);
-    broken(b"unused block, sharers", running(), home_at(4) + 2, 1);
-    broken(b"unused block, state", running(), cell_at(0, 4), 1);
-    broken(b"unused block, value", running(), cell_at(0, 4) + 1, 1);
-    broken(b"unused block, awaited", running(), cell_at(0, 4) + 2, 1);
-    broken(b"last block, owner", running(), home_at(31) + 1, 0);
-    broken(b"last cell, awaited", running(), cell_at(7, 31) + 2, 1);
+    cell(b"unused card, state", 3, 0, 0, 1);
+    cell(b"unused card, value", 3, 0, 1, 1);
+    cell(b"unused card, awaited", 3, 0, 2, 1);
+    home(b"unused block, memory", 4, 0, 1);
+    home(b"unused block, owner", 4, 1, 0);
+    home(b"unused block, sharers", 4, 2, 1);
+    cell(b"unused block, state", 0, 4, 0, 1);
+    cell(b"unused block, value", 0, 4, 1, 1);
+    cell(b"unused block, awaited", 0, 4, 2, 1);
+    home(b"last block, owner", 31, 1, 0);
+    cell(b"last cell, awaited", 7, 31, 2, 1);
 }
 
 // "an unused place not as Start makes it": the line and the pool
 fn unused_places() {
-    broken(b"unused request, card", running(), request_at(2), 1);
-    broken(b"unused request, block", running(), request_at(2) + 1, 1);
-    broken(b"unused request, kind", running(), request_at(2) + 2, 1);
-    broken(b"unused request, mask", running(), request_at(2) + 3, 1);
-    broken(b"unused request, retry", running(), request_at(2) + 4, 1);
-    broken(b"last request, retry", running(), request_at(63) + 4, 1);
-    broken(b"unused message, sender", running(), message_at(2), 1);
-    broken(b"unused message, receiver", running(), message_at(2) + 1, 1);
-    broken(b"unused message, block", running(), message_at(2) + 2, 1);
-    broken(b"unused message, value", running(), message_at(2) + 3, 1);
-    broken(b"unused message, number", running(), message_at(2) + 4, 1);
-    broken(b"last message, number", running(), message_at(63) + 4, 1);
+    request(b"unused request, card", 2, 0, 1);
+    request(b"unused request, block", 2, 1, 1);
+    request(b"unused request, kind", 2, 2, 1);
+    request(b"unused request, mask", 2, 3, 1);
+    request(b"unused request, retry", 2, 4, 1);
+    request(b"last request, retry", 63, 4, 1);
+    message(b"unused message, sender", 2, 0, 1);
+    message(b"unused message, receiver", 2, 1, 1);
+    message(b"unused message, block", 2, 2, 1);
+    message(b"unused message, value", 2, 3, 1);
+    message(b"unused message, number", 2, 4, 1);
+    message(b"last message, number", 63, 4, 1);
 }
 
 // A word too large for its field, which is sound below that: of a block
 fn wide_blocks() {
-    broken(b"wide memory", running(), home_at(0), 4294967301);
-    broken(b"wide owner", running(), home_at(1) + 1, 511);
-    broken(b"wide sharers", running(), home_at(1) + 2, 258);
-    broken(b"wide state", running(), cell_at(1, 0), 256);
-    broken(b"wide value", running(), cell_at(0, 0) + 1, 4294967303);
+    home(b"wide memory", 0, 0, 4294967301);
+    home(b"wide owner", 1, 1, 511);
+    home(b"wide sharers", 1, 2, 258);
+    cell(b"wide state", 1, 0, 0, 256);
+    cell(b"wide value", 0, 0, 1, 4294967303);
 }
 
 // A word too large for its field, which is sound below that: of the line and the pool
 fn wide_places() {
-    broken(b"wide asker", running(), request_at(0), 258);
-    broken(b"wide asked block", running(), request_at(0) + 1, 256);
-    broken(b"wide kind", running(), request_at(0) + 2, 257);
-    broken(b"wide mask", running(), request_at(0) + 3, 257);
-    broken(b"wide retry", running(), request_at(0) + 4, 257);
-    broken(b"wide sender", running(), message_at(0), 511);
-    broken(b"wide receiver", running(), message_at(0) + 1, 257);
-    broken(b"wide sent block", running(), message_at(0) + 2, 257);
-    broken(b"wide sent value", running(), message_at(0) + 3, 4294967296);
+    request(b"wide asker", 0, 0, 258);
+    request(b"wide asked block", 0, 1, 256);
+    request(b"wide kind", 0, 2, 257);
+    request(b"wide mask", 0, 3, 257);
+    request(b"wide retry", 0, 4, 257);
+    message(b"wide sender", 0, 0, 511);
+    message(b"wide receiver", 0, 1, 257);
+    message(b"wide sent block", 0, 2, 257);
+    message(b"wide sent value", 0, 3, 4294967296);
 }
 
 // A word too large for its field, which is sound below that: of the header
@@ -285,88 +295,28 @@ fn wide_header() {
 
 // A word too large for its field, which is as Start makes it below that: of an unused cell or block
 fn wide_unused_blocks() {
-    broken(b"unused card, wide state", running(), cell_at(3, 0), 256);
-    broken(
-        b"unused card, wide value",
-        running(),
-        cell_at(3, 0) + 1,
-        4294967296,
-    );
-    broken(
-        b"unused block, wide memory",
-        running(),
-        home_at(4),
-        4294967296,
-    );
-    broken(b"unused block, wide owner", running(), home_at(4) + 1, 511);
-    broken(
-        b"unused block, wide sharers",
-        running(),
-        home_at(4) + 2,
-        256,
-    );
-    broken(b"unused block, wide state", running(), cell_at(0, 4), 256);
-    broken(
-        b"unused block, wide value",
-        running(),
-        cell_at(0, 4) + 1,
-        4294967296,
-    );
+    cell(b"unused card, wide state", 3, 0, 0, 256);
+    cell(b"unused card, wide value", 3, 0, 1, 4294967296);
+    home(b"unused block, wide memory", 4, 0, 4294967296);
+    home(b"unused block, wide owner", 4, 1, 511);
+    home(b"unused block, wide sharers", 4, 2, 256);
+    cell(b"unused block, wide state", 0, 4, 0, 256);
+    cell(b"unused block, wide value", 0, 4, 1, 4294967296);
 }
 
 // A word too large for its field, which is as Start makes it below that: of an unused place of the line
 fn wide_unused_requests() {
-    broken(b"unused request, wide card", running(), request_at(2), 256);
-    broken(
-        b"unused request, wide block",
-        running(),
-        request_at(2) + 1,
-        256,
-    );
-    broken(
-        b"unused request, wide kind",
-        running(),
-        request_at(2) + 2,
-        256,
-    );
-    broken(
-        b"unused request, wide mask",
-        running(),
-        request_at(2) + 3,
-        256,
-    );
-    broken(
-        b"unused request, wide retry",
-        running(),
-        request_at(2) + 4,
-        256,
-    );
+    request(b"unused request, wide card", 2, 0, 256);
+    request(b"unused request, wide block", 2, 1, 256);
+    request(b"unused request, wide kind", 2, 2, 256);
+    request(b"unused request, wide mask", 2, 3, 256);
+    request(b"unused request, wide retry", 2, 4, 256);
 }
 
 // A word too large for its field, which is as Start makes it below that: of an unused place of the pool
 fn wide_unused_messages() {
-    broken(
-        b"unused message, wide sender",
-        running(),
-        message_at(2),
-        256,
-    );
-    broken(
-        b"unused message, wide receiver",
-        running(),
-        message_at(2) + 1,
-        256,
-    );
-    broken(
-        b"unused message, wide block",
-        running(),
-        message_at(2) + 2,
-        256,
-    );
-    broken(
-        b"unused message, wide value",
-        running(),
-        message_at(2) + 3,
-        4294967296,
-    );
+    message(b"unused message, wide sender", 2, 0, 256);
+    message(b"unused message, wide receiver", 2, 1, 256);
+    message(b"unused message, wide block", 2, 2, 256);
+    message(b"unused message, wide value", 2, 3, 4294967296);
 }

@@ -20,3 +20,4 @@ pub mod Ordered
 pub mod Started
 pub mod Told
 pub mod Went
+pub mod Joined

@@ -8,3 +8,4 @@ pub mod Held
 pub mod BigEndian
 pub mod Claims
 pub mod Pieces
+pub mod Paper

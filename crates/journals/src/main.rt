@@ -27,9 +27,10 @@ fn play(i: usize) {
     }
     io::write_all(STDOUT_FILENO, &path[..length]);
     io::write_all(STDOUT_FILENO, b"\n");
-    let Replayed::Whole = replay(fd, STDOUT_FILENO) else {
+    let replayed = replay(fd, STDOUT_FILENO);
+    libc::close(fd);
+    let Replayed::Whole = replayed else {
         os::fail(&path[..length]);
         return;
     };
-    libc::close(fd);
 }

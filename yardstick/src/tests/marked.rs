@@ -88,6 +88,9 @@ fn m3() {
         number: OrderNumber(3),
     };
     assert_eq!(chassis.pool.items(), [message]);
+    let chassis = run_to("m3", 11);
+    let reader = chassis.cell(1, 0);
+    assert_eq!((reader.state, reader.value), (S, 7));
 }
 
 #[test]

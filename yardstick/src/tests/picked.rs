@@ -1,12 +1,18 @@
 //! The stored journals reach every case and stay small.
 
 use crate::picked::picked_journals;
-use crate::replay::replay;
+use crate::replay::{replay, JOURNAL_LIMIT};
 use crate::stored::complaint;
 
 /// The most bytes that all journals, and all outputs, may have.
-const MOST_DATA: usize = 60_000;
+const MOST_DATA: usize = 125_000;
 const MOST_OUTPUT: usize = 150_000;
+
+fn journal(name: &str) -> Vec<u8> {
+    let mut all = picked_journals().into_iter();
+    let found = all.find(|picked| picked.name == name);
+    found.expect("a name from the list").journal
+}
 
 #[test]
 fn every_case_is_in_a_stored_journal() {
@@ -24,6 +30,21 @@ fn names_are_plain_and_differ() {
     names.sort_unstable();
     names.dedup();
     assert_eq!(names.len(), count);
+}
+
+#[test]
+fn damage_of_the_first_record_gives_one_line() {
+    assert_eq!(replay(&journal("first_cut_in_its_head")), "0 20 0\n");
+    assert_eq!(replay(&journal("first_tag_unknown")), "0 21 0\n");
+    assert_eq!(replay(&journal("first_of_wrong_length")), "0 22 0\n");
+}
+
+#[test]
+fn the_limit_cuts_a_store() {
+    let journal = journal("longer_than_read");
+    assert!(journal.len() > JOURNAL_LIMIT);
+    let text = replay(&journal);
+    assert!(text.ends_with("\n7282 0 0\n7283 20 65534\n"));
 }
 
 #[test]
