@@ -4,6 +4,7 @@ mod extremes;
 mod ill_formed;
 mod limits;
 mod marks;
+mod records;
 mod report;
 mod turns;
 
@@ -14,4 +15,5 @@ fn main() {
     turns::run();
     ill_formed::run();
     extremes::run();
+    records::run();
 }
