@@ -15,6 +15,7 @@ use Rattle.rules.specs.declared.kinds.Answer.the-variants.{Refused}
 use Rattle.rules.specs.declared.kinds.Refusal.{Refusal}
 use Rattle.rules.specs.declared.kinds.Refusal.the-variants.{IllFormed}
 use Rattle.rules.specs.declared.kinds.Event.{Event}
+use Rattle.rules.proofs.Unique.{one-answer}
 use Rattle.rules.proofs.Refusals.{None}
 use Rattle.rules.proofs.Formed.{Wf, wf→, SizesWf, sizes→}
 use Rattle.engine.specs.Words.{words, view, cardsOf, blocksOf, waitingOf, pooledOf, formed}
@@ -96,4 +97,4 @@ answers-ill-formed w e f = record { answer = rw f; after = rw f }
 
 -- no second answer and no second words keep it
 pub answers-unique : (w : List ℕ) (e : Event) (r r′ : Answer) (w₁ w₂ : List ℕ) → Answers w e r w₁ → Answers w e r′ w₂ → (r ≡ r′) × (w₁ ≡ w₂)
-answers-unique w e r r′ w₁ w₂ a b = (a .answer ∙ sym (b .answer), a .after ∙ sym (b .after))
+answers-unique w e r r′ w₁ w₂ a b = (one-answer _ r r′ (a .answer) (b .answer), one-answer _ w₁ w₂ (a .after) (b .after))

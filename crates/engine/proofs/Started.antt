@@ -12,12 +12,15 @@ use Rattle.rules.specs.Chassis.{Block, Chassis, idle, fresh, freshBlock}
 use Rattle.rules.specs.Answers.{refusedBy}
 use Rattle.rules.specs.Formed.{sizes}
 use Rattle.rules.specs.Events.{start}
+use Rattle.rules.specs.declared.kinds.Answer.{Answer}
 use Rattle.rules.specs.declared.kinds.Answer.the-variants.{Done, Refused}
 use Rattle.rules.specs.declared.kinds.Refusal.the-variants.{NoSuchSize}
+use Rattle.rules.proofs.Unique.{one-answer}
 use Rattle.rules.proofs.Tests.{test}
 use Rattle.rules.proofs.Lists.{replace-cases}
 use Rattle.engine.specs.Layout.{allWords}
 use Rattle.engine.specs.Words.{rows, words}
+use Rattle.engine.specs.Promise.{Starts}
 use Rattle.engine.specs.Parts.{homeChanged, putHome}
 use Rattle.engine.proofs.Changes.{home-words}
 
@@ -65,14 +68,18 @@ all-begun w n h e = e ∙ ap (λ k. words (begun k)) h
 -- Start, on the words of an empty chassis
 
 pub not-started : (cards blocks : ℕ) → sizes cards blocks ≡ false → (w : List ℕ) → w ≡ words (fresh 0 0)
-    → (Refused NoSuchSize ≡ start cards blocks .answer) × (w ≡ words (start cards blocks .after))
+    → Starts cards blocks (Refused NoSuchSize) w
 unfolding start refusedBy
-not-started cards blocks t w e = rw t (refl, e)
+not-started cards blocks t w e = record { answer = rw t; after = rw t e }
 
 -- the counts, where they are in range
 pub started : (cards blocks : ℕ) → sizes cards blocks ≡ true → (w w₁ w₂ : List ℕ) → w ≡ words (fresh 0 0)
-    → w₁ ≡ set w 0 cards → w₂ ≡ set w₁ 1 blocks → (Done 0 ≡ start cards blocks .answer) × (w₂ ≡ words (start cards blocks .after))
+    → w₁ ≡ set w 0 cards → w₂ ≡ set w₁ 1 blocks → Starts cards blocks (Done 0) w₂
 unfolding start refusedBy words
 started cards blocks t w w₁ w₂ e e₁ e₂ =
     let is : w₂ ≡ words (fresh cards blocks) = e₂ ∙ ap (λ (l : List ℕ). set l 1 blocks) (e₁ ∙ ap (λ (l : List ℕ). set l 0 cards) e) in
-    rw t (refl, is)
+    record { answer = rw t; after = rw t is }
+
+-- no second answer and no second words keep the promise
+pub starts-unique : (cards blocks : ℕ) (r r′ : Answer) (w₁ w₂ : List ℕ) → Starts cards blocks r w₁ → Starts cards blocks r′ w₂ → (r ≡ r′) × (w₁ ≡ w₂)
+starts-unique cards blocks r r′ w₁ w₂ a b = (one-answer _ r r′ (a .answer) (b .answer), one-answer _ w₁ w₂ (a .after) (b .after))

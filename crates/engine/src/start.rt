@@ -11,8 +11,8 @@ use rules::numbers::HOME;
 use rules::numbers::MOST_BLOCKS;
 ghost use mathlib.Core.Path.{_≡_};
 ghost use Rattle.rules.specs.Chassis.{fresh};
-ghost use Rattle.rules.specs.Events.{start};
 ghost use Rattle.engine.specs.Words.{words};
+ghost use Rattle.engine.specs.Promise.{Starts};
 
 // What Start answers, and the words that it makes.
 pub struct Started {
@@ -22,7 +22,7 @@ pub struct Started {
 
 // A chassis of so many cards and blocks; of none, where these are out of range.
 pub fn start(cards: u8, blocks: u8) -> Started
-    ensures { λ r. ⌜ (r .answer ≡ start cards blocks .answer) × (r .state ≡ words (start cards blocks .after)) ⌝ }
+    ensures { λ r. ⌜ Starts cards blocks (r .answer) (r .state) ⌝ }
 {
     let mut state: [u64; WORDS] = [0; WORDS];
     let answer = start_in(&mut state, cards, blocks);
@@ -31,7 +31,7 @@ pub fn start(cards: u8, blocks: u8) -> Started
 
 // The same, in words that the caller lends: what was in them is gone, also where it refuses.
 pub fn start_in(state: &mut [u64; WORDS], cards: u8, blocks: u8) -> Answer
-    ensures { λ r. ⌜ (r ≡ start cards blocks .answer) × (now (state .exit) ≡ words (start cards blocks .after)) ⌝ }
+    ensures { λ r. ⌜ Starts cards blocks r (now (state .exit)) ⌝ }
 {
     start_none(state);
     if !are_sizes(cards as u64, blocks as u64) {

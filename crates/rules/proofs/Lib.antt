@@ -10,6 +10,7 @@ pub mod States
 pub mod Blocks
 pub mod Holders
 pub mod Turns
+pub mod Unique
 pub mod Refusals
 pub mod Steps
 pub mod Stores
