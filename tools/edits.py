@@ -7,12 +7,12 @@ which proof of a claim has to fail.
 import re
 from typing import NamedTuple, Optional
 
-FUNCTION = re.compile(r"^(?:pub(?:\(crate\))? )?fn (\w+)")
+FUNCTION = re.compile(r'^(?:pub(?:\(crate\))? )?(?:extern "C" )?fn (\w+)')
 
 # What the prover says where a fact fails, as against a proof that no longer has the code's form: no name that the proof uses is gone,
 # and what differs is not the code that a walk by hand goes through.
 FACT = re.compile(
-    r"the two types (?:first differ|differ only|are)|expected type|does not follow from what it read|give a proof of that|no proof of|it is not proved that"
+    r"the two (?:types|sides) (?:first differ|differ only|are)|expected type|does not follow from what it read|give a proof of that|no proof of|it is not proved that"
 )
 FORM = re.compile(r"^`walk`:|has no field|can be named from here")
 # An error of a proof, and a note on a function that the prover walks by itself, with its place in the crate.
@@ -66,13 +66,16 @@ def broken_claims(path):
 
 
 def function_spans(text):
-    """The functions of a source file: each name, with its first and its last line."""
+    """The functions of a source file: each name, with its first line, attributes and all, and its last."""
     lines = text.split("\n")
     spans = []
     for number, line in enumerate(lines, 1):
         if found := FUNCTION.match(line):
+            first = number
+            while first > 1 and lines[first - 2].startswith("#["):
+                first -= 1
             last = next((n for n in range(number, len(lines) + 1) if lines[n - 1] == "}"), number)
-            spans.append((found[1], number, last))
+            spans.append((found[1], first, last))
     return spans
 
 

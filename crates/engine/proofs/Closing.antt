@@ -1,18 +1,20 @@
 -- The places of the line or of the pool: one more at the tail, and one that leaves while the later ones close up.
 -- What holds of both is stated once, over the kind of item and over the words as a function of the count and the places.
-use Prim.Native.Nat.{ℕ, zero, suc, _+_, _-_, _≤_, _<_}
+use Prim.Native.Nat.{ℕ, zero, suc, _+_, _-_, _*_, _≤_, _<_}
 use native.Mathlib.Numerals.{add-one}
 use native.Mathlib.Omega.{arith}
 use mathlib.Core.List.{List, [], _∷_, _++_}
-use mathlib.Core.Path.{_≡_, refl, sym, ap, _∙_, fun-ext}
+use mathlib.Core.Path.{_≡_, refl, sym, ap, ap₂, _∙_, fun-ext}
 use lib.ListN.{length, getD, set, length-append, List·getD-eq-default}
+use lib.Seq.{getD-set-other}
 use lib.Dec.{eqb, ltb}
 use borrow.Author.Tests.{eqb-true, eqb-false, ltb-true, ltb-false}
 use Rattle.rules.specs.Lists.{replace, removed}
 use Rattle.rules.specs.Numbers.{room}
 use Rattle.rules.proofs.Tests.{test}
 use Rattle.rules.proofs.Lists.{replace-cases, replace-same}
-use Rattle.engine.specs.Parts.{copied, closing}
+use Rattle.engine.specs.Layout.{placeWords}
+use Rattle.engine.specs.Parts.{placed, copied, closing}
 use Rattle.engine.proofs.Rows.{upd, upd-put}
 
 module _ {A : Type 0} (d : A) where
@@ -137,13 +139,65 @@ module _ {A : Type 0} (d : A) (words : ℕ → (ℕ → A) → List ℕ) (header
 
 -- Closing up step by step, as the code counts
 
-pub closing-step : (w w′ : List ℕ) (base i z : ℕ) (d : List ℕ) → i < z → w′ ≡ copied w base i → closing w base i (z - i) ≡ d
-    → closing w′ base (i + 1) (z - (i + 1)) ≡ d
-unfolding closing
-closing-step w w′ base i z d h e k =
-    let n : z - i ≡ suc (z - (i + 1)) = omega arith in
-    ap (λ l. closing l base (i + 1) (z - (i + 1))) e ∙ ap (closing w base i) (sym n) ∙ k
+-- Word by word: n words from p on, each taken by the one a place further
+unfoldable pub shifting : List ℕ → ℕ → ℕ → List ℕ
+shifting w p zero = w
+shifting w p (suc n) = shifting (set w p (getD w (p + placeWords) 0)) (p + 1) n
 
-pub closing-none : (w : List ℕ) (base i z : ℕ) → z ≤ i → closing w base i (z - i) ≡ w
-unfolding closing
-closing-none w base i z h = let e : z - i ≡ 0 = omega arith in ap (closing w base i) e
+shift-one : (w : List ℕ) (p p′ q n : ℕ) (v : ℕ) → p + placeWords ≡ q → p + 1 ≡ p′ → getD w q 0 ≡ v → shifting w p (suc n) ≡ shifting (set w p v) p′ n
+unfolding shifting
+shift-one w p p′ q n v e e′ h =
+    ap₂ (λ (x k : ℕ). shifting (set w p x) k n) (ap (λ k. getD w k 0) e ∙ h) e′
+
+-- a word that is read stands behind those that are set
+behind : (w : List ℕ) (i j v x : ℕ) → i < j → getD w j 0 ≡ x → getD (set w i v) j 0 ≡ x
+behind w i j v x l h = getD-set-other w i j v 0 (λ e. absurd (omega arith)) ∙ h
+
+-- five words are a place
+shift-place : (w : List ℕ) (p q n : ℕ) → p + placeWords ≡ q → shifting w p (suc (suc (suc (suc (suc n)))))
+    ≡ shifting (placed w p (getD w q 0) (getD w (q + 1) 0) (getD w (q + 2) 0) (getD w (q + 3) 0) (getD w (q + 4) 0)) q n
+shift-place w p q n e =
+    let a = getD w q 0 in
+    let b = getD w (q + 1) 0 in
+    let c = getD w (q + 2) 0 in
+    let d = getD w (q + 3) 0 in
+    let f = getD w (q + 4) 0 in
+    let w₁ = set w p a in
+    let w₂ = set w₁ (p + 1) b in
+    let w₃ = set w₂ (p + 2) c in
+    let w₄ = set w₃ (p + 3) d in
+    shift-one w p (p + 1) q (suc (suc (suc (suc n)))) a e refl refl
+    ∙ shift-one w₁ (p + 1) (p + 2) (q + 1) (suc (suc (suc n))) b (omega arith) (omega arith) (behind w p (q + 1) a b (omega arith) refl)
+    ∙ shift-one w₂ (p + 2) (p + 3) (q + 2) (suc (suc n)) c (omega arith) (omega arith)
+    (behind w₁ (p + 1) (q + 2) b c (omega arith) (behind w p (q + 2) a c (omega arith) refl))
+    ∙ shift-one w₃ (p + 3) (p + 4) (q + 3) (suc n) d (omega arith) (omega arith)
+    (behind w₂ (p + 2) (q + 3) c d (omega arith) (behind w₁ (p + 1) (q + 3) b d (omega arith) (behind w p (q + 3) a d (omega arith) refl)))
+    ∙ shift-one w₄ (p + 4) q (q + 4) n f (omega arith) (omega arith)
+    (behind w₃ (p + 3) (q + 4) d f (omega arith)
+    (behind w₂ (p + 2) (q + 4) c f (omega arith) (behind w₁ (p + 1) (q + 4) b f (omega arith) (behind w p (q + 4) a f (omega arith) refl))))
+
+shift-closing : (n : ℕ) (w : List ℕ) (base i : ℕ) → shifting w (base + placeWords * i) (placeWords * n) ≡ closing w base i n
+unfolding shifting closing
+shift-closing zero w base i = refl
+shift-closing (suc n) w base i =
+    let p = base + placeWords * i in
+    let k : placeWords * suc n ≡ suc (suc (suc (suc (suc (placeWords * n))))) = omega arith in
+    ap (shifting w p) k
+    ∙ shift-place w p (base + placeWords * (i + 1)) (placeWords * n) (omega arith)
+    ∙ shift-closing n (copied w base i) base (i + 1)
+
+-- all there is to close up, from its first word
+pub shift-all : (w : List ℕ) (base place end p z : ℕ) → place ≤ end → p ≡ base + placeWords * place → z ≡ base + placeWords * end
+    → shifting w p (z - p) ≡ closing w base place (end - place)
+shift-all w base place end p z l e e′ = ap₂ (shifting w) e (omega (arith, e, e′)) ∙ shift-closing (end - place) w base place
+
+pub shift-step : (w w′ : List ℕ) (i z : ℕ) (d : List ℕ) → i < z → w′ ≡ set w i (getD w (i + placeWords) 0) → shifting w i (z - i) ≡ d
+    → shifting w′ (i + 1) (z - (i + 1)) ≡ d
+unfolding shifting
+shift-step w w′ i z d h e k =
+    let n : z - i ≡ suc (z - (i + 1)) = omega arith in
+    ap (λ l. shifting l (i + 1) (z - (i + 1))) e ∙ ap (shifting w i) (sym n) ∙ k
+
+pub shift-none : (w : List ℕ) (i z : ℕ) → z ≤ i → shifting w i (z - i) ≡ w
+unfolding shifting
+shift-none w i z h = let e : z - i ≡ 0 = omega arith in ap (shifting w i) e

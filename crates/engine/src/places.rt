@@ -21,7 +21,7 @@ ghost use Rattle.rules.specs.Numbers.{room};
 ghost use Rattle.rules.specs.Chassis.{poolChanged};
 ghost use Rattle.engine.specs.Layout.{poolAt};
 ghost use Rattle.engine.specs.Words.{waitingOf, pooledOf};
-ghost use Rattle.engine.specs.Parts.{Becomes, lineChanged, copied, closing};
+ghost use Rattle.engine.specs.Parts.{Becomes, lineChanged, closing};
 
 // A request joins the line's tail.
 pub(crate) fn push_request(s: &mut [u64; WORDS], request: Request)
@@ -85,33 +85,15 @@ pub(crate) fn remove_message(s: &mut [u64; WORDS], place: usize)
     set_pooled(s, end);
 }
 
-// The places from `place` up to `end`, each taken by the one after it; they begin at `base`.
+// The places from `place` up to `end`, each taken by the one after it, word by word; they begin at `base`.
 fn close_up(s: &mut [u64; WORDS], base: usize, place: usize, end: usize)
     requires { ⌜ (base ≤ poolAt) × (place ≤ end) × (end < room) ⌝ }
     ensures { λ _. ⌜ now (s .exit) ≡ closing (now (s .entry)) base place (end - place) ⌝ }
 {
-    let mut i = place;
-    while i < end {
-        copy_down(s, base, i);
+    let last = base + PLACE_WORDS * end;
+    let mut i = base + PLACE_WORDS * place;
+    while i < last {
+        s[i] = s[i + PLACE_WORDS];
         i += 1;
     }
-}
-
-// The words of the place after `place`, in it.
-fn copy_down(s: &mut [u64; WORDS], base: usize, place: usize)
-    requires { ⌜ (base ≤ poolAt) × (place + 1 < room) ⌝ }
-    ensures { λ _. ⌜ now (s .exit) ≡ copied (now (s .entry)) base place ⌝ }
-{
-    let to = base + PLACE_WORDS * place;
-    let from = base + PLACE_WORDS * (place + 1);
-    let a = s[from];
-    let b = s[from + 1];
-    let c = s[from + 2];
-    let d = s[from + 3];
-    let e = s[from + 4];
-    s[to] = a;
-    s[to + 1] = b;
-    s[to + 2] = c;
-    s[to + 3] = d;
-    s[to + 4] = e;
 }

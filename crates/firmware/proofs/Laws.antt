@@ -1,0 +1,59 @@
+-- The exports' promises, from those of the functions that they call.
+use Prim.Native.Nat.{ℕ, _*_}
+use mathlib.Core.Path.{_≡_, refl, sym, ap, _∙_}
+use mathlib.Core.List.{List}
+use mathlib.Core.Logic.{_≢_}
+use borrow.Author.Tests.{ne-eqb}
+use Rattle.journal.specs.Records.{openingTag, loadTag, storeTag, askTag, dropTag, orderTag, deliverTag, copyTag, rejoinTag, bytesOf}
+use Rattle.journal.specs.Reading.{damageNo, placeAfter, readAt}
+use Rattle.journal.specs.Writing.{writtenNo, placeWritten, Puts}
+use Rattle.journal.specs.declared.kinds.Damage.the-variants.{UnknownTag}
+use Rattle.journal.specs.declared.kinds.Found.{Found}
+use Rattle.journal.specs.declared.kinds.Record.{Record}
+use Rattle.journal.specs.declared.kinds.Written.{Written}
+use Rattle.engine.specs.Running.{Runs}
+use Rattle.engine.specs.declared.run.Ran.{Ran}
+use Rattle.firmware.specs.Halves.{half}
+use Rattle.firmware.specs.Fields.{fields, named}
+use Rattle.firmware.specs.Journals.{foundNumber, fieldsAfter, Reads, Writes, reachedIn, ranNumber, standingAfter, RunSays}
+use Rattle.firmware.specs.declared.fields.Named.{Named}
+use Rattle.firmware.specs.declared.fields.Named.the-variants.{One, Unknown}
+
+-- the fields of a record, once it is known which one
+pub fields-for : (l : List ℕ) (x y : Record) → x ≡ y → l ≡ fields y → l ≡ fields x
+fields-for l x y e h = h ∙ sym (ap fields e)
+
+-- no record has a tag that is none of the nine
+pub no-record : (t card block kind mask value position : ℕ) → t ≢ openingTag → t ≢ loadTag → t ≢ storeTag → t ≢ askTag → t ≢ dropTag → t ≢ orderTag
+    → t ≢ deliverTag → t ≢ copyTag → t ≢ rejoinTag → named t card block kind mask value position ≡ Unknown
+unfolding named
+no-record t card block kind mask value position a b c d e f g h i =
+    rw (ne-eqb t openingTag a, ne-eqb t loadTag b, ne-eqb t storeTag c, ne-eqb t askTag d, ne-eqb t dropTag e, ne-eqb t orderTag f, ne-eqb t deliverTag g, ne-eqb t copyTag h, ne-eqb t rejoinTag i)
+
+-- reading, once it is known what was found
+pub reads : (j : List ℕ) (p : ℕ) (l : List ℕ) (n p′ : ℕ) (l′ : List ℕ) (f g : Found) → f ≡ readAt j p → f ≡ g → p′ ≡ placeAfter p f
+    → n ≡ foundNumber g → l′ ≡ fieldsAfter l g → Reads j p l n p′ l′
+reads j p l n p′ l′ f g is e after answer kept = record {
+  answer = answer ∙ ap foundNumber (sym e ∙ is);
+  after = after ∙ ap (placeAfter p) is;
+  fields-after = kept ∙ ap (fieldsAfter l) (sym e ∙ is);
+}
+
+-- writing, once it is known what was named and what came of it
+pub writes : (b : List ℕ) (p : ℕ) (m : Named) (n : ℕ) (b′ : List ℕ) (p′ : ℕ) (one : Record) (r q : Written) → m ≡ One one → r ≡ q → Puts b p (bytesOf one) r b′
+    → n ≡ writtenNo q * half → p′ ≡ placeWritten p q → Writes b p m n b′ p′
+writes b p m n b′ p′ one r q e is h answer after =
+    rw e (r, h, answer ∙ ap (λ (x : Written). writtenNo x * half) (sym is), after ∙ ap (placeWritten p) (sym is))
+
+pub not-written : (b : List ℕ) (p : ℕ) (m : Named) (n : ℕ) → m ≡ Unknown → n ≡ damageNo UnknownTag * half → Writes b p m n b p
+not-written b p m n e answer = rw e (answer, refl, refl)
+
+-- a run, once it is known what it answered
+pub run-says : (w j l t : List ℕ) (n : ℕ) (w′ l′ t′ : List ℕ) (r q : Ran) → r ≡ q → Runs w j (reachedIn l) t r w′ t′
+    → n ≡ ranNumber q → l′ ≡ standingAfter l q → RunSays w j l t n w′ l′ t′
+run-says w j l t n w′ l′ t′ r q e h answer stands = record {
+  ran = r;
+  kept = h;
+  told = answer ∙ ap ranNumber (sym e);
+  stands = stands ∙ ap (standingAfter l) (sym e);
+}

@@ -1,0 +1,4 @@
+-- What the exported functions leave, from what they call.
+pub mod Laws
+pub mod Unique
+pub mod Sizes

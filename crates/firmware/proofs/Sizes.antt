@@ -1,0 +1,22 @@
+-- The header's sizes are those of the definitions.
+use mathlib.Core.Path.{refl, _≡_}
+use lib.ListN.{length}
+use Rattle.rules.specs.declared.kinds.Event.the-variants.{Load, Store, Drop, Ask, Order, Deliver, Copy, Rejoin}
+use Rattle.journal.specs.declared.kinds.Record.{Record}
+use Rattle.journal.specs.declared.kinds.Record.the-variants.{Opening, Happens}
+use Rattle.firmware.specs.Fields as Fields
+use Rattle.firmware.specs.Sizes.{fields, Sizes-hold}
+
+all-fields : (r : Record) → length (Fields.fields r) ≡ fields
+all-fields (Opening cards blocks) = refl
+all-fields (Happens (Load k b)) = refl
+all-fields (Happens (Store k b v)) = refl
+all-fields (Happens (Drop k b)) = refl
+all-fields (Happens (Ask k b kind mask)) = refl
+all-fields (Happens Order) = refl
+all-fields (Happens (Deliver i)) = refl
+all-fields (Happens (Copy i)) = refl
+all-fields (Happens (Rejoin k)) = refl
+
+pub sizes-hold : Sizes-hold
+sizes-hold = record { all-words = refl; all-fields = all-fields; longest-line = refl }

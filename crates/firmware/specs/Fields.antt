@@ -1,0 +1,37 @@
+-- A record as seven numbers: tag, card, block, kind, mask, value, position. What a record has not is 0; an opening's cards and blocks
+-- stand in the places of a card and a block.
+use Prim.Native.Nat.{ℕ}
+use mathlib.Core.Bool.{cond}
+use mathlib.Core.List.{List, [], _∷_}
+use lib.Dec.{eqb}
+use Rattle.rules.specs.declared.kinds.Event.the-variants.{Load, Store, Drop, Ask, Order, Deliver, Copy, Rejoin}
+use Rattle.journal.specs.Records.{openingTag, loadTag, storeTag, askTag, dropTag, orderTag, deliverTag, copyTag, rejoinTag}
+use Rattle.journal.specs.declared.kinds.Record.{Record}
+use Rattle.journal.specs.declared.kinds.Record.the-variants.{Opening, Happens}
+use Rattle.firmware.specs.declared.fields.Named.{Named}
+use Rattle.firmware.specs.declared.fields.Named.the-variants.{One, Unknown}
+
+abbrev pub fields : Record → List ℕ
+fields (Opening cards blocks) = openingTag ∷ cards ∷ blocks ∷ 0 ∷ 0 ∷ 0 ∷ 0 ∷ []
+fields (Happens (Load k b)) = loadTag ∷ k ∷ b ∷ 0 ∷ 0 ∷ 0 ∷ 0 ∷ []
+fields (Happens (Store k b v)) = storeTag ∷ k ∷ b ∷ 0 ∷ 0 ∷ v ∷ 0 ∷ []
+fields (Happens (Ask k b kind mask)) = askTag ∷ k ∷ b ∷ kind ∷ mask ∷ 0 ∷ 0 ∷ []
+fields (Happens (Drop k b)) = dropTag ∷ k ∷ b ∷ 0 ∷ 0 ∷ 0 ∷ 0 ∷ []
+fields (Happens Order) = orderTag ∷ 0 ∷ 0 ∷ 0 ∷ 0 ∷ 0 ∷ 0 ∷ []
+fields (Happens (Deliver i)) = deliverTag ∷ 0 ∷ 0 ∷ 0 ∷ 0 ∷ 0 ∷ i ∷ []
+fields (Happens (Copy i)) = copyTag ∷ 0 ∷ 0 ∷ 0 ∷ 0 ∷ 0 ∷ i ∷ []
+fields (Happens (Rejoin k)) = rejoinTag ∷ k ∷ 0 ∷ 0 ∷ 0 ∷ 0 ∷ 0 ∷ []
+
+-- the record of a tag and the fields that it has, whatever the others are; none, where no record has the tag
+unfoldable pub named : ℕ → ℕ → ℕ → ℕ → ℕ → ℕ → ℕ → Named
+named tag card block kind mask value position =
+    cond (eqb tag openingTag) (One (Opening card block))
+    (cond (eqb tag loadTag) (One (Happens (Load card block)))
+    (cond (eqb tag storeTag) (One (Happens (Store card block value)))
+    (cond (eqb tag askTag) (One (Happens (Ask card block kind mask)))
+    (cond (eqb tag dropTag) (One (Happens (Drop card block)))
+    (cond (eqb tag orderTag) (One (Happens Order))
+    (cond (eqb tag deliverTag) (One (Happens (Deliver position)))
+    (cond (eqb tag copyTag) (One (Happens (Copy position)))
+    (cond (eqb tag rejoinTag) (One (Happens (Rejoin card)))
+    Unknown))))))))

@@ -1,0 +1,5 @@
+-- What the exported functions promise.
+pub mod Halves
+pub mod Fields
+pub mod Journals
+pub mod Sizes

@@ -1,0 +1,211 @@
+/*
+ * Hands the exported functions random bytes as state and random arguments, and sees that a refused call changes no word of what is lent
+ * and that the same call gives the same answer. What is lent stands between pages that may not be touched, so a read or write outside of
+ * it ends the program. The sanitizers see to the test itself.
+ */
+#include <inttypes.h>
+#include <stdio.h>
+#include <stdlib.h>
+#include <string.h>
+#include <sys/mman.h>
+#include <unistd.h>
+
+#include "coherence.h"
+
+enum { JOURNAL = 400, TEXT = 300, ROUNDS = 40000, STEPS = 60 };
+
+#define STATE_BYTES (COHERENCE_WORDS * sizeof(uint64_t))
+
+static uint64_t seed = 88172645463325252u;
+static unsigned long calls, refused;
+
+static uint32_t any(uint32_t below)
+{
+    seed ^= seed << 13;
+    seed ^= seed >> 7;
+    seed ^= seed << 17;
+    return (uint32_t)(seed >> 32) % below;
+}
+
+static void fail(const char *what)
+{
+    fprintf(stderr, "any_bytes: %s (call %lu)\n", what, calls);
+    exit(EXIT_FAILURE);
+}
+
+/* Memory of this size whose last byte is the last one before a page that may not be touched; the page before it may not be either. */
+static void *lend(size_t size)
+{
+    size_t page = (size_t)sysconf(_SC_PAGESIZE);
+    size_t pages = (size + page - 1) / page;
+    uint8_t *base = mmap(NULL, (pages + 2) * page, PROT_NONE, MAP_PRIVATE | MAP_ANONYMOUS, -1, 0);
+    if (base == MAP_FAILED || mprotect(base + page, pages * page, PROT_READ | PROT_WRITE) != 0)
+        fail("no memory");
+    return base + (pages + 1) * page - size;
+}
+
+/* One event with these arguments; any number names one. */
+static uint64_t happen(uint64_t *state, uint32_t event, const uint8_t *a, uint32_t value)
+{
+    switch (event % 8) {
+    case 0: return coherence_load(state, a[0], a[1]);
+    case 1: return coherence_store(state, a[0], a[1], value);
+    case 2: return coherence_drop(state, a[0], a[1]);
+    case 3: return coherence_ask(state, a[0], a[1], a[2], a[3]);
+    case 4: return coherence_order(state);
+    case 5: return coherence_deliver(state, a[0]);
+    case 6: return coherence_copy(state, a[0]);
+    default: return coherence_rejoin(state, a[0]);
+    }
+}
+
+/* Arguments: mostly small ones, which name what is there. */
+static void arguments(uint8_t *a)
+{
+    uint32_t below = any(4) == 0 ? 256 : 4;
+    for (int i = 0; i < 4; i++)
+        a[i] = (uint8_t)any(below);
+}
+
+/* An event on the state, and the same on a copy of it. */
+static uint64_t try_event(uint64_t *state, uint64_t *copy, uint64_t *before)
+{
+    uint8_t a[4];
+    uint32_t event = any(8), value = any(UINT32_MAX);
+    arguments(a);
+    memcpy(before, state, STATE_BYTES);
+    memcpy(copy, state, STATE_BYTES);
+    uint64_t answer = happen(state, event, a, value);
+    calls++;
+    if (COHERENCE_REFUSAL(answer) != COHERENCE_DONE) {
+        refused++;
+        if (COHERENCE_VALUE(answer) != 0 || COHERENCE_REFUSAL(answer) > COHERENCE_ILL_FORMED)
+            fail("a refusal that is not in the list, or with a value");
+        if (memcmp(before, state, STATE_BYTES) != 0)
+            fail("a refused event changed the state");
+    }
+    if (happen(copy, event, a, value) != answer || memcmp(copy, state, STATE_BYTES) != 0)
+        fail("the same event had two answers");
+    return answer;
+}
+
+/* Random words are refused with 15, whatever the event. */
+static void random_states(uint64_t *state, uint64_t *copy, uint64_t *before)
+{
+    for (int round = 0; round < ROUNDS / 10; round++) {
+        for (size_t i = 0; i < COHERENCE_WORDS; i++)
+            state[i] = any(2) ? any(9) : ((uint64_t)any(UINT32_MAX) << 32 | any(UINT32_MAX));
+        if (COHERENCE_REFUSAL(try_event(state, copy, before)) != COHERENCE_ILL_FORMED)
+            fail("random words are taken for a chassis");
+    }
+}
+
+/* Events from a start, now and then with one word changed. */
+static void played_states(uint64_t *state, uint64_t *copy, uint64_t *before)
+{
+    for (int round = 0; round < ROUNDS / STEPS; round++) {
+        uint64_t made = coherence_start(state, (uint8_t)any(10), (uint8_t)(any(2) ? any(4) : any(35)));
+        for (int i = 0; i < STEPS; i++) {
+            uint64_t answer = try_event(state, copy, before);
+            if (made != 0 && COHERENCE_REFUSAL(answer) != COHERENCE_ILL_FORMED)
+                fail("a refused start made a chassis");
+            if (made == 0 && (COHERENCE_REFUSAL(answer) == COHERENCE_ILL_FORMED || COHERENCE_REFUSAL(answer) == COHERENCE_IMPOSSIBLE))
+                fail("13 or 15 in a run from a start");
+        }
+        state[any(COHERENCE_WORDS)] = any(300);
+        for (int i = 0; i < STEPS / 10; i++)
+            try_event(state, copy, before);
+    }
+}
+
+/* A record of any tag and fields is written, and read back as it was; or a refusal keeps every byte and the place. */
+static void records(uint8_t *journal, uint64_t *fields)
+{
+    uint8_t before[JOURNAL];
+    for (int round = 0; round < ROUNDS; round++) {
+        for (size_t i = 0; i < JOURNAL; i++)
+            journal[i] = before[i] = (uint8_t)any(any(2) ? 256 : 32);
+        uint8_t a[4], tag = (uint8_t)(any(2) ? 0x10 + any(9) : any(256));
+        uint32_t value = any(UINT32_MAX);
+        size_t at = any(2) ? any(JOURNAL + 20) : JOURNAL - any(12), place = at;
+        arguments(a);
+        uint64_t answer = coherence_write(journal, JOURNAL, &place, tag, a[0], a[1], a[2], a[3], value, a[0]);
+        calls++;
+        if (answer != 0) {
+            refused++;
+            if (place != at || memcmp(journal, before, JOURNAL) != 0)
+                fail("a refused record changed the buffer or the place");
+        } else {
+            if (memcmp(journal, before, at) != 0 || memcmp(journal + place, before + place, JOURNAL - place) != 0)
+                fail("a byte outside of the record was written");
+            size_t end = at;
+            if (coherence_read(journal, JOURNAL, &end, fields) != 1 || end != place || fields[COHERENCE_TAG] != tag)
+                fail("a record does not read back");
+        }
+        size_t from = any(JOURNAL + 20), next = from;
+        uint64_t kept[COHERENCE_FIELDS];
+        memcpy(kept, fields, sizeof kept);
+        uint64_t found = coherence_read(journal, JOURNAL, &next, fields);
+        calls++;
+        if (found != 1 && (next != from || memcmp(kept, fields, sizeof kept) != 0))
+            fail("the end or damage moved the place or the fields");
+    }
+}
+
+/* Runs over random journals, piece by piece, from random words and, now and then, from a random standing. */
+static void runs(uint64_t *state, uint64_t *before, uint8_t *journal, uint8_t *text)
+{
+    for (int round = 0; round < ROUNDS / 100; round++) {
+        size_t place = 0;
+        uint64_t standing[COHERENCE_STANDING] = {0, 0, 0};
+        for (size_t i = 0; i < JOURNAL; i++)
+            journal[i] = (uint8_t)any(256);
+        coherence_write(journal, JOURNAL, &place, COHERENCE_OPENING, 3, 3, 0, 0, 0, 0);
+        while (any(40) != 0) {
+            uint8_t a[4];
+            arguments(a);
+            coherence_write(journal, JOURNAL, &place, (uint8_t)(0x10 + any(8)), a[0], a[1], a[2], a[3], any(9), a[0]);
+        }
+        if (any(4) == 0)
+            standing[any(2)] = any(JOURNAL);
+        for (;;) {
+            uint8_t old[TEXT];
+            uint64_t stood[COHERENCE_STANDING];
+            size_t size = any(4) == 0 ? any(COHERENCE_LINE + 1) : TEXT;
+            memcpy(stood, standing, sizeof stood);
+            memcpy(old, text, TEXT);
+            memcpy(before, state, STATE_BYTES);
+            uint64_t answer = coherence_run(state, journal, JOURNAL, standing, text + TEXT - size, size);
+            calls++;
+            if (COHERENCE_REFUSAL(answer) != COHERENCE_DONE) {
+                refused++;
+                if (memcmp(before, state, STATE_BYTES) != 0 || memcmp(old, text, TEXT) != 0 || memcmp(stood, standing, sizeof stood) != 0)
+                    fail("a refused run changed something");
+                break;
+            }
+            if (standing[COHERENCE_WRITTEN] > size || memcmp(old, text, TEXT - size) != 0)
+                fail("text outside of what was lent");
+            if (memcmp(old + TEXT - size + standing[COHERENCE_WRITTEN], text + TEXT - size + standing[COHERENCE_WRITTEN],
+                       size - standing[COHERENCE_WRITTEN]) != 0)
+                fail("text behind what was written was touched");
+            if (COHERENCE_VALUE(answer) == 0)
+                break;
+        }
+    }
+}
+
+int main(void)
+{
+    uint64_t *state = lend(STATE_BYTES), *copy = lend(STATE_BYTES), *before = malloc(STATE_BYTES);
+    uint64_t *fields = lend(COHERENCE_FIELDS * sizeof *fields);
+    uint8_t *journal = lend(JOURNAL), *text = lend(TEXT);
+    if (before == NULL)
+        fail("no memory");
+    random_states(state, copy, before);
+    played_states(state, copy, before);
+    records(journal, fields);
+    runs(state, before, journal, text);
+    free(before);
+    printf("any_bytes: %lu calls, %lu of them refused, and none of these changed anything\n", calls, refused);
+    return EXIT_SUCCESS;
+}
