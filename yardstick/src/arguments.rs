@@ -2,6 +2,8 @@
 
 use std::ffi::OsString;
 
+use crate::files::STANDARD;
+
 /// The words not yet taken.
 pub struct Arguments {
     words: Vec<String>,
@@ -26,18 +28,33 @@ impl Arguments {
 
     /// Takes the option and the number after it if it is there.
     pub fn take_number(&mut self, option: &str) -> Result<Option<u64>, String> {
+        let Some(word) = self.take_option(option, "a number")? else {
+            return Ok(None);
+        };
+        match word.parse() {
+            Ok(number) => Ok(Some(number)),
+            Err(_) => Err(format!("{option} needs a number, not {word}")),
+        }
+    }
+
+    /// Takes the option and the word after it if it is there.
+    pub fn take_option(&mut self, option: &str, what: &str) -> Result<Option<String>, String> {
         let Some(at) = self.words.iter().position(|word| word == option) else {
             return Ok(None);
         };
         self.words.remove(at);
         if at == self.words.len() {
-            return Err(format!("{option} needs a number"));
+            return Err(format!("{option} needs {what}"));
         }
-        let word = self.words.remove(at);
-        match word.parse() {
-            Ok(number) => Ok(Some(number)),
-            Err(_) => Err(format!("{option} needs a number, not {word}")),
+        Ok(Some(self.words.remove(at)))
+    }
+
+    /// Takes the name of a file, which is needed; `-` is one.
+    pub fn take_file(&mut self, what: &str) -> Result<String, String> {
+        if self.words.first().is_some_and(|word| word == STANDARD) {
+            return Ok(self.words.remove(0));
         }
+        self.take_word(what)
     }
 
     /// Takes the next word, which is needed.

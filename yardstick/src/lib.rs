@@ -1,10 +1,13 @@
 //! A second engine for the chassis, written from the rule paper alone, and the
 //! tools that compare another program with it: journals picked by a seed, a
-//! readable form of a journal, counts of what journals reach, stored journals.
+//! readable form of a journal and the way back from it, what each record of a
+//! journal changes, counts of what journals reach, stored journals.
 
 #![forbid(unsafe_code)]
 
+pub mod arguments;
 pub mod cases;
+pub mod changes;
 pub mod characters;
 pub mod chassis;
 pub mod choose;
@@ -12,11 +15,14 @@ pub mod compare;
 pub mod counts;
 pub mod damage;
 pub mod events;
+pub mod explain;
 pub mod files;
 pub mod formed;
 pub mod generate;
 pub mod journal;
+pub mod make;
 pub mod marked;
+pub mod names;
 pub mod order;
 pub mod picked;
 pub mod queue;
@@ -27,6 +33,8 @@ pub mod script;
 pub mod show;
 pub mod stored;
 pub mod table;
+pub mod text;
+pub mod words;
 
 #[cfg(test)]
 mod tests;

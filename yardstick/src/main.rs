@@ -2,18 +2,19 @@
 
 #![forbid(unsafe_code)]
 
-mod arguments;
-
 use std::env;
 use std::fs;
-use std::io::{self, Read, Write};
+use std::io::{self, IsTerminal, Read, Write};
 use std::path::Path;
 use std::process::ExitCode;
 
-use arguments::Arguments;
+use yardstick::arguments::Arguments;
 use yardstick::compare::compare;
 use yardstick::counts::Counts;
+use yardstick::explain::{explain, Look};
+use yardstick::files::{read_whole, write_whole, LONGEST_JOURNAL, LONGEST_TEXT, STANDARD};
 use yardstick::generate::generate;
+use yardstick::make::make;
 use yardstick::replay::{replay, JOURNAL_LIMIT};
 use yardstick::show::show;
 use yardstick::stored;
@@ -24,8 +25,11 @@ usage:
   yardstick generate --seed N [--damaged] > JOURNAL     the journal of a seed
   yardstick counts [--seeds N]                          how often each case is reached
   yardstick show FILE                                   a journal in a readable form
+  yardstick make FILE [-o JOURNAL]                      the journal of a readable form
+  yardstick explain FILE                                what each record of a journal changes
   yardstick compare PROGRAM [--from SEED] [--count N]   another program's output with this one's
-  yardstick stored DIR [--check]                        the stored journals, written or checked";
+  yardstick stored DIR [--check]                        the stored journals, written or checked
+FILE may be - for standard input.";
 
 /// How many seeds are counted, and compared, if nothing is said.
 const DEFAULT_SEEDS: u64 = 2_000;
@@ -37,6 +41,9 @@ enum Failure {
     Usage(String),
     /// The work itself failed, or found something wrong.
     Work(String),
+    /// A text has a mistake. The message begins with its place, as editors
+    /// understand it.
+    Text(String),
 }
 
 /// The exit status of a failure.
@@ -46,11 +53,12 @@ const USAGE_STATUS: u8 = 2;
 fn main() -> ExitCode {
     let (message, status) = match run() {
         Ok(()) => return ExitCode::SUCCESS,
-        Err(Failure::Usage(message)) => (format!("{message}\n{USAGE}"), USAGE_STATUS),
-        Err(Failure::Work(message)) => (message, WORK_STATUS),
+        Err(Failure::Usage(message)) => (format!("yardstick: {message}\n{USAGE}"), USAGE_STATUS),
+        Err(Failure::Work(message)) => (format!("yardstick: {message}"), WORK_STATUS),
+        Err(Failure::Text(message)) => (message, WORK_STATUS),
     };
     // With no standard error left, the status alone has to say it.
-    let _ = writeln!(io::stderr(), "yardstick: {message}");
+    let _ = writeln!(io::stderr(), "{message}");
     ExitCode::from(status)
 }
 
@@ -63,6 +71,8 @@ fn run() -> Result<(), Failure> {
         "generate" => run_generate(arguments),
         "counts" => run_counts(arguments),
         "show" => run_show(arguments),
+        "make" => run_make(arguments),
+        "explain" => run_explain(arguments),
         "compare" => run_compare(arguments),
         "stored" => run_stored(arguments),
         _ => Err(Failure::Usage(format!("unknown command {command}"))),
@@ -101,10 +111,37 @@ fn run_counts(mut arguments: Arguments) -> Result<(), Failure> {
 }
 
 fn run_show(mut arguments: Arguments) -> Result<(), Failure> {
-    let file = arguments.take_word("FILE").map_err(Failure::Usage)?;
+    let file = arguments.take_file("FILE").map_err(Failure::Usage)?;
     arguments.end().map_err(Failure::Usage)?;
-    let journal = fs::read(&file).map_err(|error| Failure::Work(format!("{file}: {error}")))?;
+    let journal = read_in(&file, LONGEST_JOURNAL)?;
     write_out(show(&journal, usize::MAX).as_bytes())
+}
+
+fn run_make(mut arguments: Arguments) -> Result<(), Failure> {
+    let out = arguments.take_option("-o", "a file");
+    let out = out.map_err(Failure::Usage)?;
+    let file = arguments.take_file("FILE").map_err(Failure::Usage)?;
+    arguments.end().map_err(Failure::Usage)?;
+    let text = read_in(&file, LONGEST_TEXT)?;
+    let journal =
+        make(&text).map_err(|mistake| Failure::Text(format!("{}:{mistake}", name_of(&file))))?;
+    match out.filter(|name| name != STANDARD) {
+        Some(name) => write_beside(&file, &name, &journal),
+        None => write_out(&journal),
+    }
+}
+
+fn run_explain(mut arguments: Arguments) -> Result<(), Failure> {
+    let file = arguments.take_file("FILE").map_err(Failure::Usage)?;
+    arguments.end().map_err(Failure::Usage)?;
+    let journal = read_in(&file, LONGEST_JOURNAL)?;
+    let has_colours = io::stdout().is_terminal() && env::var_os("NO_COLOR").is_none();
+    let look = if has_colours {
+        Look::Coloured
+    } else {
+        Look::Plain
+    };
+    write_out(explain(&journal, look).as_bytes())
 }
 
 fn run_compare(mut arguments: Arguments) -> Result<(), Failure> {
@@ -130,6 +167,33 @@ fn run_stored(mut arguments: Arguments) -> Result<(), Failure> {
         stored::write(directory)
     };
     done.map_err(Failure::Work)
+}
+
+/// What a file is called in a message.
+fn name_of(file: &str) -> &str {
+    if file == STANDARD {
+        "standard input"
+    } else {
+        file
+    }
+}
+
+/// Reads a whole file, or standard input.
+fn read_in(file: &str, longest: usize) -> Result<Vec<u8>, Failure> {
+    read_whole(file, longest).map_err(|error| Failure::Work(format!("{}: {error}", name_of(file))))
+}
+
+/// Writes a file, which may not be the one that was read.
+fn write_beside(read: &str, written: &str, bytes: &[u8]) -> Result<(), Failure> {
+    let is_same = match (fs::canonicalize(read), fs::canonicalize(written)) {
+        (Ok(one), Ok(other)) => one == other,
+        _ => false,
+    };
+    if is_same {
+        return Err(Failure::Work(format!("{written} is the text itself")));
+    }
+    write_whole(Path::new(written), bytes)
+        .map_err(|error| Failure::Work(format!("{written}: {error}")))
 }
 
 /// Writes all bytes to standard output.

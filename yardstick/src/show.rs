@@ -1,13 +1,14 @@
 //! A journal in a readable form: an event a line, with what became of it in a
-//! comment after `#`. Bytes that are no record stand after the word `bytes`.
+//! comment after `#`. Bytes that are no record, and those past the limit, stand
+//! after the word `bytes`: `make` gives every byte of the journal again.
 
 use std::fmt::{self, Write};
 
 use crate::events::Event;
 use crate::journal::{Reader, Record};
+use crate::names::Kind;
 use crate::refusal::Refusal;
 use crate::replay::{counted, Line, Replay, JOURNAL_LIMIT};
-use crate::table::{GETS, GETX, PUTX};
 
 /// How many bytes that are no record stand on a line.
 const BYTES_A_LINE: usize = 16;
@@ -33,8 +34,14 @@ fn write_journal(out: &mut String, journal: &[u8], records: usize) -> fmt::Resul
             Ok(Some(record)) => write_record(out, record, number, place, line)?,
             Ok(None) => return write_end(out, journal, line),
             Err(refusal) => {
+                let rest = read.get(place..).unwrap_or(&[]);
                 writeln!(out, "# {number} at byte {place}: {refusal}")?;
-                write_bytes(out, read.get(place..).unwrap_or(&[]))?;
+                writeln!(
+                    out,
+                    "# from here on nothing is read: {}",
+                    Many(rest.len(), "byte")
+                )?;
+                write_bytes(out, rest)?;
                 return write_end(out, journal, None);
             }
         }
@@ -64,11 +71,12 @@ fn write_end(out: &mut String, journal: &[u8], line: Option<Line>) -> fmt::Resul
     if let Some(Err(refusal)) = line.map(|line| line.answer) {
         writeln!(out, "# 0 at byte 0: {refusal}")?;
     }
-    if journal.len() > JOURNAL_LIMIT {
-        let unread = journal.len() - JOURNAL_LIMIT;
-        writeln!(out, "# {unread} more bytes are not read")?;
+    let unread = journal.get(JOURNAL_LIMIT..).unwrap_or(&[]);
+    if !unread.is_empty() {
+        let many = Many(unread.len(), "byte");
+        writeln!(out, "# past byte {JOURNAL_LIMIT} nothing is read: {many}")?;
     }
-    Ok(())
+    write_bytes(out, unread)
 }
 
 /// Writes bytes that are no record.
@@ -98,8 +106,8 @@ impl fmt::Display for Record {
                 write!(
                     out,
                     "start {} {}",
-                    Many(*cards, "card"),
-                    Many(*blocks, "block")
+                    Many(usize::from(*cards), "card"),
+                    Many(usize::from(*blocks), "block")
                 )
             }
             Record::Event(event) => write!(out, "{event}"),
@@ -134,25 +142,11 @@ impl fmt::Display for Event {
 }
 
 /// A number of things, with `s` unless it is 1.
-struct Many(u8, &'static str);
+pub(crate) struct Many(pub usize, pub &'static str);
 
 impl fmt::Display for Many {
     fn fmt(&self, out: &mut fmt::Formatter<'_>) -> fmt::Result {
         let plural = if self.0 == 1 { "" } else { "s" };
         write!(out, "{} {}{plural}", self.0, self.1)
-    }
-}
-
-/// A kind of request by its name, or by its number if it has none.
-struct Kind(u8);
-
-impl fmt::Display for Kind {
-    fn fmt(&self, out: &mut fmt::Formatter<'_>) -> fmt::Result {
-        match self.0 {
-            GETS => write!(out, "GETS"),
-            GETX => write!(out, "GETX"),
-            PUTX => write!(out, "PUTX"),
-            unknown => write!(out, "kind {unknown}"),
-        }
     }
 }

@@ -16,6 +16,11 @@ pub const II_A: u8 = 10;
 /// The number of states.
 pub const STATES: usize = 11;
 
+/// The states' names, in the order of their numbers.
+pub const NAMES: [&str; STATES] = [
+    "I", "S", "M", "IS_AD", "IM_AD", "SM_AD", "IS_D", "IM_D", "SM_D", "MI_A", "II_A",
+];
+
 /// A kind of request.
 pub const GETS: u8 = 1;
 pub const GETX: u8 = 2;

@@ -34,29 +34,36 @@ fn run(directory: &Path, words: &[&str], input: &[u8]) -> Output {
     child.wait_with_output().expect("the program ends")
 }
 
+/// Command lines that are not understood.
+#[rustfmt::skip]
+const BAD_USE: [&[&str]; 21] = [
+    &[],
+    &["unknown"],
+    &["replay", "more"],
+    &["generate"],
+    &["generate", "--seed"],
+    &["generate", "--seed", "x"],
+    &["counts", "--seeds", "-1"],
+    &["show"],
+    &["show", "-x"],
+    &["show", "one", "two"],
+    &["make"],
+    &["make", "-o", "journal"],
+    &["make", "text", "-o"],
+    &["make", "text", "-o", "one", "two"],
+    &["explain"],
+    &["explain", "--colour", "journal"],
+    &["compare", "--count", "1"],
+    &["compare", "p", "--from", "18446744073709551615", "--count", "1"],
+    &["stored", "--chek"],
+    &["stored", "-"],
+    &["-"],
+];
+
 #[test]
 fn bad_use_is_told_with_status_2() {
     let directory = directory("bad_use");
-    for words in [
-        &[][..],
-        &["unknown"],
-        &["replay", "more"],
-        &["generate"],
-        &["generate", "--seed"],
-        &["generate", "--seed", "x"],
-        &["counts", "--seeds", "-1"],
-        &["show"],
-        &["compare", "--count", "1"],
-        &[
-            "compare",
-            "p",
-            "--from",
-            "18446744073709551615",
-            "--count",
-            "1",
-        ],
-        &["stored", "--chek"],
-    ] {
+    for words in BAD_USE {
         let output = run(&directory, words, &[]);
         assert_eq!(output.status.code(), Some(2), "{words:?}");
         assert!(
@@ -136,4 +143,187 @@ fn the_same_program_shows_no_difference() {
     assert!(output.status.success());
     let words = String::from_utf8_lossy(&output.stdout);
     assert!(words.starts_with("50 journals compared, of them 25 damaged; "));
+}
+
+/// The commands that read a file.
+const READERS: [&str; 3] = ["show", "make", "explain"];
+
+/// Sees that a command fails with status 1, says why, and writes nothing.
+fn fails(directory: &Path, words: &[&str], why: &str) {
+    let output = run(directory, words, &[]);
+    assert_eq!(output.status.code(), Some(1), "{words:?}");
+    assert!(output.stdout.is_empty(), "{words:?}");
+    let told = String::from_utf8_lossy(&output.stderr);
+    assert!(told.contains(why), "{words:?}: {told}");
+}
+
+/// The names in a directory, in order.
+fn names(directory: &Path) -> Vec<String> {
+    let entries = fs::read_dir(directory).expect("it can be read");
+    let mut names: Vec<String> = entries
+        .map(|entry| entry.expect("an entry").file_name())
+        .map(|name| name.to_string_lossy().into_owned())
+        .collect();
+    names.sort();
+    names
+}
+
+#[test]
+fn files_that_cannot_be_read_are_named() {
+    let directory = directory("unread");
+    fs::create_dir(directory.join("folder")).expect("a folder is made");
+    for command in READERS {
+        fails(&directory, &[command, "no-such-file"], "no-such-file: ");
+        fails(&directory, &[command, "folder"], "folder: ");
+    }
+}
+
+/// Root may read every file, so there is nothing to see for root.
+#[cfg(unix)]
+#[test]
+fn a_file_without_permission_is_named() {
+    use std::os::unix::fs::PermissionsExt;
+    let directory = directory("unpermitted");
+    let file = directory.join("locked");
+    fs::write(&file, "order").expect("it is written");
+    fs::set_permissions(&file, fs::Permissions::from_mode(0o000)).expect("it is locked");
+    if fs::read(&file).is_err() {
+        for command in READERS {
+            fails(&directory, &[command, "locked"], "locked: ");
+        }
+    }
+}
+
+/// A device without an end is given up.
+#[cfg(unix)]
+#[test]
+fn a_file_without_an_end_is_refused() {
+    let directory = directory("endless");
+    for command in READERS {
+        fails(
+            &directory,
+            &[command, "/dev/zero"],
+            "/dev/zero: longer than ",
+        );
+    }
+}
+
+#[test]
+fn empty_files_are_read() {
+    let directory = directory("empty");
+    fs::write(directory.join("empty"), "").expect("it is written");
+    for command in READERS {
+        let output = run(&directory, &[command, "empty"], &[]);
+        assert!(output.status.success() && output.stderr.is_empty());
+        assert_eq!(output.stdout.is_empty(), command == "make");
+    }
+}
+
+#[test]
+fn make_undoes_show_through_standard_input_and_a_file() {
+    let directory = directory("undone");
+    for seed in 0..20 {
+        let journal = yardstick::generate::generate(seed, seed % 2 == 1);
+        let shown = run(&directory, &["show", "-"], &journal).stdout;
+        let made = run(&directory, &["make", "-"], &shown);
+        assert!(made.status.success() && made.stdout == journal);
+        let made = run(&directory, &["make", "-", "-o", "journal"], &shown);
+        assert!(made.status.success() && made.stdout.is_empty());
+        assert!(fs::read(directory.join("journal")).is_ok_and(|found| found == journal));
+    }
+    assert_eq!(names(&directory), ["journal"]);
+}
+
+#[test]
+fn a_mistake_has_its_place_and_nothing_is_written() {
+    let directory = directory("mistake");
+    fs::write(directory.join("text"), "order\n\ndeliver foo\n").expect("it is written");
+    fs::write(directory.join("old"), "as it was").expect("it is written");
+    let expected = "text:3:9: a number from 0 to 255 is expected, not `foo`\n";
+    for words in [
+        &["make", "text"][..],
+        &["make", "text", "-o", "new"],
+        &["make", "-o", "old", "text"],
+    ] {
+        let output = run(&directory, words, &[]);
+        assert_eq!(output.status.code(), Some(1));
+        assert!(output.stdout.is_empty());
+        assert_eq!(String::from_utf8_lossy(&output.stderr), expected);
+    }
+    let output = run(&directory, &["make", "-"], b"orders");
+    let told = String::from_utf8_lossy(&output.stderr);
+    assert!(told.starts_with("standard input:1:1: start, "));
+    assert_eq!(names(&directory), ["old", "text"]);
+    assert!(fs::read(directory.join("old")).is_ok_and(|found| found == b"as it was"));
+}
+
+#[cfg(unix)]
+#[test]
+fn make_replaces_a_file_and_nothing_else() {
+    let directory = directory("replaced");
+    fs::write(directory.join("text"), "order").expect("it is written");
+    fs::write(directory.join("old"), "old").expect("it is written");
+    fs::create_dir(directory.join("folder")).expect("a folder is made");
+    std::os::unix::fs::symlink("old", directory.join("link")).expect("a link is made");
+    fails(
+        &directory,
+        &["make", "text", "-o", "text"],
+        "is the text itself",
+    );
+    for other in ["folder", "link", "/dev/null", "no/such/folder", ""] {
+        fails(&directory, &["make", "text", "-o", other], other);
+    }
+    assert!(run(&directory, &["make", "text", "-o", "old"], &[])
+        .status
+        .success());
+    assert!(fs::read(directory.join("old")).is_ok_and(|found| found == [0x14, 0, 0]));
+    assert_eq!(names(&directory), ["folder", "link", "old", "text"]);
+}
+
+/// Nobody reads what is written: the reader is gone before there is input.
+#[cfg(unix)]
+#[test]
+fn a_closed_output_is_told() {
+    let journal = yardstick::generate::generate(3, false);
+    let text = yardstick::show::show(&journal, usize::MAX);
+    for (words, input) in [
+        (&["show", "-"][..], &journal[..]),
+        (&["make", "-"], text.as_bytes()),
+        (&["explain", "-"], &journal),
+        (&["replay"], &journal),
+    ] {
+        let mut child = Command::new(PROGRAM)
+            .args(words)
+            .stdin(Stdio::piped())
+            .stdout(Stdio::piped())
+            .stderr(Stdio::piped())
+            .spawn()
+            .expect("the program starts");
+        drop(child.stdout.take());
+        let mut stdin = child.stdin.take().expect("its input is open");
+        stdin.write_all(input).expect("it reads all input");
+        drop(stdin);
+        let output = child.wait_with_output().expect("the program ends");
+        assert_eq!(output.status.code(), Some(1), "{words:?}");
+        assert!(String::from_utf8_lossy(&output.stderr).contains("cannot write"));
+    }
+}
+
+/// Any bytes have status 0 or 1, and no colours where there is no terminal.
+#[test]
+fn any_bytes_are_taken_or_refused() {
+    let directory = directory("any_bytes");
+    let mut random = yardstick::random::Random::new(5);
+    for _ in 0..50 {
+        let bytes: Vec<u8> = (0..random.place(400)).map(|_| random.byte()).collect();
+        for command in READERS {
+            let output = run(&directory, &[command, "-"], &bytes);
+            let may_refuse = command == "make" && output.status.code() == Some(1);
+            assert!(
+                output.status.success() || may_refuse,
+                "{command}: {bytes:?}"
+            );
+            assert!(command == "make" || !output.stdout.contains(&0x1b));
+        }
+    }
 }

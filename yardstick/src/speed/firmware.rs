@@ -1,8 +1,13 @@
 //! The proved engine, through its static library. The declarations follow include/coherence.h; each wrapper lends whole slices.
+//! The binaries `speed` and `agree` both have this file as a module.
 
 use yardstick::events::Event;
+use yardstick::refusal::Refusal;
+use yardstick::words::WORDS;
 
-pub const WORDS: usize = 1509;
+/// A refusal by the paper's number.
+const WRONG_OPENING: u32 = Refusal::WrongOpening.number() as u32;
+
 const FIELDS: usize = 7;
 const STANDING: usize = 3;
 
@@ -120,6 +125,44 @@ pub fn apply(state: &mut [u64; WORDS], event: Event) -> Answer {
             Event::Copy { position } => coherence_copy(state, position),
             Event::Rejoin { card } => coherence_rejoin(state, card),
         }
+    })
+}
+
+/// A record's line of text, but for its number: the refusal or 0, and the value; and whether no line follows.
+pub struct Told {
+    pub refusal: u32,
+    pub value: u64,
+    pub is_last: bool,
+}
+
+/// Reads the record of this number at a place and runs it. Nothing is told at the end of a journal that has an opening.
+#[inline]
+pub fn step(
+    state: &mut [u64; WORDS],
+    journal: &[u8],
+    place: &mut usize,
+    number: u64,
+) -> Option<Told> {
+    let at = *place as u64;
+    let ends = |refusal| Told {
+        refusal,
+        value: at,
+        is_last: true,
+    };
+    let goes_on = |(refusal, value): Answer| Told {
+        refusal,
+        value: u64::from(value),
+        is_last: false,
+    };
+    Some(match read(journal, place) {
+        Found::End if number > 0 => return None,
+        Found::Opening { cards, blocks } if number == 0 => match start(state, cards, blocks) {
+            made @ (0, _) => goes_on(made),
+            (refusal, _) => ends(refusal),
+        },
+        Found::Event(event) if number > 0 => goes_on(apply(state, event)),
+        Found::Damaged(refusal) => ends(refusal),
+        _ => ends(WRONG_OPENING),
     })
 }
 

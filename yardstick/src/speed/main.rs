@@ -9,12 +9,15 @@ mod lines;
 mod runs;
 
 use std::env;
+use std::fmt;
+use std::io::{self, Write};
 use std::process::ExitCode;
 use std::time::{Duration, Instant};
 
-use firmware::WORDS;
 use journals::{journals, Journal};
 use runs::{proved_tested, proved_untested, safe_tested, safe_untested, Lent};
+use yardstick::arguments::Arguments;
+use yardstick::words::WORDS;
 
 const DEFAULT_EVENTS: usize = 20_000;
 const DEFAULT_ROUNDS: usize = 201;
@@ -32,42 +35,45 @@ const RUNS: [(&str, Run); 4] = [
 ];
 
 fn main() -> ExitCode {
-    let words: Vec<String> = env::args().skip(1).collect();
-    match command(&words) {
+    match command() {
         Ok(()) => ExitCode::SUCCESS,
         Err(message) => {
-            eprintln!("speed: {message}");
+            // With no standard error left, the status alone has to say it.
+            let _ = writeln!(io::stderr(), "speed: {message}");
             ExitCode::FAILURE
         }
     }
 }
 
-fn command(words: &[String]) -> Result<(), String> {
-    let (mut rounds, mut events) = (DEFAULT_ROUNDS, DEFAULT_EVENTS);
-    let mut rest = words;
-    loop {
-        rest = match rest {
-            [] => return measure(rounds, events),
-            [option, number, more @ ..] if option == "--rounds" => {
-                rounds = count(option, number)?;
-                more
-            }
-            [option, number, more @ ..] if option == "--events" => {
-                events = count(option, number)?;
-                more
-            }
-            [option, run, journal] if option == "--once" => return once(run, journal, events),
-            [word, ..] => return Err(format!("{word} is not understood")),
-        };
+fn command() -> Result<(), String> {
+    let mut arguments = Arguments::new(env::args_os().skip(1))?;
+    let rounds = count(&mut arguments, "--rounds", DEFAULT_ROUNDS)?;
+    let events = count(&mut arguments, "--events", DEFAULT_EVENTS)?;
+    if arguments.take_flag("--once") {
+        let run = arguments.take_word("ENGINE")?;
+        let journal = arguments.take_word("JOURNAL")?;
+        arguments.end()?;
+        return once(&run, &journal, events);
     }
+    arguments.end()?;
+    measure(rounds, events)
 }
 
 /// The number after an option: 1 or more.
-fn count(option: &str, word: &str) -> Result<usize, String> {
-    match word.parse() {
-        Ok(number) if number > 0 => Ok(number),
-        _ => Err(format!("{option} needs a number, 1 or more, not {word}")),
-    }
+fn count(arguments: &mut Arguments, option: &str, default: usize) -> Result<usize, String> {
+    let Some(number) = arguments.take_number(option)? else {
+        return Ok(default);
+    };
+    let number = usize::try_from(number).ok().filter(|number| *number > 0);
+    number.ok_or_else(|| format!("{option} needs a number, 1 or more"))
+}
+
+/// Writes a line of the report and makes it seen at once.
+fn say(line: fmt::Arguments<'_>) -> Result<(), String> {
+    let mut out = io::stdout();
+    writeln!(out, "{line}")
+        .and_then(|()| out.flush())
+        .map_err(|error| format!("cannot write: {error}"))
 }
 
 /// What a run over a journal is lent.
@@ -92,23 +98,22 @@ fn once(name: &str, journal: &str, events: usize) -> Result<(), String> {
         .ok_or_else(|| format!("there is no journal {journal}"))?;
     let mut lent = lent_for(journal);
     run(&journal.bytes, &mut lent);
-    println!("{} bytes of text", lent.count);
-    Ok(())
+    say(format_args!("{} bytes of text", lent.count))
 }
 
 /// The ratios of all journals.
 fn measure(rounds: usize, events: usize) -> Result<(), String> {
-    println!("time of the proved engine / time of the safe one, {rounds} rounds of {events} events: median (lowest tenth to highest tenth)");
+    say(format_args!("time of the proved engine / time of the safe one, {rounds} rounds of {events} events: median (lowest tenth to highest tenth)"))?;
     for journal in journals(events) {
         let [untested, tested] = [
             (proved_untested as Run, safe_untested as Run),
             (proved_tested, safe_tested),
         ]
         .map(|(proved, safe)| ratios(&journal, proved, safe, rounds));
-        println!(
+        say(format_args!(
             "{:<12} neither side tests 15: {}   both test 15 at every event: {}",
             journal.name, untested?, tested?
-        );
+        ))?;
     }
     Ok(())
 }

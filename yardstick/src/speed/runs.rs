@@ -5,8 +5,9 @@ use yardstick::chassis::Chassis;
 use yardstick::events::Event;
 use yardstick::journal::{Reader, Record};
 use yardstick::refusal::Refusal;
+use yardstick::words::WORDS;
 
-use crate::firmware::{self, Found, WORDS};
+use crate::firmware;
 use crate::lines::push_line;
 
 /// Refusals by the paper's numbers.
@@ -55,26 +56,10 @@ pub fn safe_tested(journal: &[u8], lent: &mut Lent) {
 pub fn proved_tested(journal: &[u8], lent: &mut Lent) {
     let (state, text) = (&mut *lent.state, &mut lent.text);
     let (mut count, mut number, mut place) = (0, 0, 0);
-    loop {
-        let at = place;
-        let (refusal, value, ends) = match firmware::read(journal, &mut place) {
-            Found::End if number > 0 => break,
-            Found::Opening { cards, blocks } if number == 0 => {
-                match firmware::start(state, cards, blocks) {
-                    (0, value) => (0, u64::from(value), false),
-                    (refusal, _) => (refusal, at as u64, true),
-                }
-            }
-            Found::Event(event) if number > 0 => {
-                let (refusal, value) = firmware::apply(state, event);
-                (refusal, u64::from(value), false)
-            }
-            Found::Damaged(refusal) => (refusal, at as u64, true),
-            _ => (WRONG_OPENING, at as u64, true),
-        };
-        count = push_line(text, count, number, refusal, value);
+    while let Some(told) = firmware::step(state, journal, &mut place, number) {
+        count = push_line(text, count, number, told.refusal, told.value);
         number += 1;
-        if ends {
+        if told.is_last {
             break;
         }
     }

@@ -1,14 +1,17 @@
 //! Tests that look inside the engine.
 
+mod explain;
 mod formed;
 mod generated;
 mod history;
 mod journal;
+mod make;
 mod marked;
 mod order;
 mod picked;
 mod replay;
 mod show;
+mod words;
 
 use crate::chassis::Chassis;
 use crate::events::Event;

@@ -1,5 +1,6 @@
 //! The readable form.
 
+use crate::replay::JOURNAL_LIMIT;
 use crate::script::{ask, drop_copy, journal_of, load, order, rejoin, start, store};
 use crate::show::show;
 
@@ -46,7 +47,10 @@ fn damage_is_pointed_at() {
     let mut journal = journal_of([start(1, 1)]);
     journal.extend([0x99, 0, 1]);
     let shown = show(&journal, usize::MAX);
-    assert!(shown.ends_with("# 1 at byte 9: refusal 21, the tag is unknown\nbytes 99 00 01\n"));
+    let expected = "# 1 at byte 9: refusal 21, the tag is unknown\n\
+                    # from here on nothing is read: 3 bytes\n\
+                    bytes 99 00 01\n";
+    assert!(shown.ends_with(expected));
 }
 
 #[test]
@@ -55,4 +59,19 @@ fn records_after_the_run_are_shown_too() {
     let shown = show(&journal, usize::MAX);
     assert!(shown.ends_with("# 1 at byte 3: not run\n"));
     assert!(show(&[], usize::MAX).starts_with("# 0 at byte 0: refusal 23"));
+}
+
+/// The limit cuts the last of the stores; both parts of it are shown.
+#[test]
+fn bytes_past_the_limit_are_shown_too() {
+    let mut journal = journal_of([start(1, 1)]);
+    journal.extend(journal_of(vec![store(0, 0, 7); 7_281]));
+    journal.extend([0xAA; 2]);
+    assert_eq!(journal.len(), JOURNAL_LIMIT + 4);
+    let expected = "# 7281 at byte 65529: refusal 20, the record is cut short\n\
+                    # from here on nothing is read: 7 bytes\n\
+                    bytes 11 00 06 00 00 00 00\n\
+                    # past byte 65536 nothing is read: 4 bytes\n\
+                    bytes 00 07 aa aa\n";
+    assert!(show(&journal, usize::MAX).ends_with(expected));
 }

@@ -1,0 +1,142 @@
+//! Whether both engines agree, word for word: over the journals of seeds, every second one damaged, the safe chassis laid out as words is
+//! after every record what the proved engine's words are, with the same answer. Also whether `make` gives again the journal that `show`
+//! shows, and whether the proved engine's own run writes what a replay writes. Stops at the first difference.
+//!
+//!     agree [--from SEED] [--count N]
+
+#[path = "../speed/firmware.rs"]
+mod firmware;
+
+use std::env;
+use std::io::{self, Write};
+use std::ops::Range;
+use std::process::ExitCode;
+
+use yardstick::arguments::Arguments;
+use yardstick::cases::Subject;
+use yardstick::generate::generate;
+use yardstick::make::make;
+use yardstick::replay::{counted, replay, Line, Replay};
+use yardstick::show::show;
+use yardstick::words::{unused_words, WORDS};
+
+const USAGE: &str = "usage: agree [--from SEED] [--count N]";
+
+/// How many journals are tried if nothing is said.
+const DEFAULT_COUNT: u64 = 1_000;
+
+/// What stands in every word before the first Start: it takes any words.
+const ANY_WORD: u64 = 0xDEAD_BEEF_DEAD_BEEF;
+
+/// The room for text that the proved engine's run is lent: a few lines, so that it takes many pieces.
+const TEXT_ROOM: usize = 500;
+
+fn main() -> ExitCode {
+    let seeds = seeds().map_err(|message| format!("{message}\n{USAGE}"));
+    let done = seeds.and_then(|seeds| {
+        let records = agree(seeds.clone())?;
+        let journals = seeds.end - seeds.start;
+        writeln!(
+            io::stdout(),
+            "{journals} journals, {records} records: the same words and answers; make and show undo each other"
+        )
+        .map_err(|error| format!("cannot write: {error}"))
+    });
+    match done {
+        Ok(()) => ExitCode::SUCCESS,
+        Err(message) => {
+            // With no standard error left, the status alone has to say it.
+            let _ = writeln!(io::stderr(), "agree: {message}");
+            ExitCode::FAILURE
+        }
+    }
+}
+
+/// The seeds that the command line names.
+fn seeds() -> Result<Range<u64>, String> {
+    let mut arguments = Arguments::new(env::args_os().skip(1))?;
+    let mut number = |option| arguments.take_number(option);
+    let (first, count) = (number("--from")?, number("--count")?);
+    arguments.end()?;
+    let first = first.unwrap_or(0);
+    let end = first.checked_add(count.unwrap_or(DEFAULT_COUNT));
+    Ok(first..end.ok_or("the seeds go past 2^64 - 1")?)
+}
+
+/// How many records the journals of these seeds have, if all agree.
+fn agree(seeds: Range<u64>) -> Result<u64, String> {
+    let mut records = 0;
+    for seed in seeds {
+        let journal = generate(seed, seed % 2 == 1);
+        records += check(&journal).map_err(|what| format!("seed {seed}: {what}"))?;
+    }
+    Ok(records)
+}
+
+/// How many records a journal has, if all agrees.
+fn check(journal: &[u8]) -> Result<u64, String> {
+    if make(show(journal, usize::MAX).as_bytes()).as_deref() != Ok(journal) {
+        return Err("make does not give again what show shows".to_string());
+    }
+    let text = proved_text(counted(journal));
+    if text != replay(journal).as_bytes() {
+        return Err("the proved engine's run writes another text".to_string());
+    }
+    check_words(journal)
+}
+
+/// The text of the proved engine's own run.
+fn proved_text(journal: &[u8]) -> Vec<u8> {
+    let mut whole = Vec::new();
+    let (mut state, mut text) = ([ANY_WORD; WORDS], [0; TEXT_ROOM]);
+    firmware::run(&mut state, journal, &mut text, |piece| {
+        whole.extend_from_slice(piece)
+    });
+    whole
+}
+
+/// Runs a journal by both engines, record by record, and compares the answers and the words.
+fn check_words(journal: &[u8]) -> Result<u64, String> {
+    let mut safe = Replay::new(journal);
+    let mut state = [ANY_WORD; WORDS];
+    let (mut number, mut place) = (0, 0);
+    while let Some(line) = safe.next() {
+        let told = firmware::step(&mut state, counted(journal), &mut place, number)
+            .ok_or_else(|| format!("record {number}: the proved engine sees the end"))?;
+        let (refusal, value) = line.numbers();
+        let due = (u32::from(refusal), value as u64, line.is_last());
+        if (told.refusal, told.value, told.is_last) != due {
+            return Err(format!("record {number}: the answers differ"));
+        }
+        same_words(&state, &words_after(&safe, &line))
+            .map_err(|what| format!("record {number}: {what}"))?;
+        number += 1;
+        if line.is_last() {
+            return Ok(number);
+        }
+    }
+    match firmware::step(&mut state, counted(journal), &mut place, number) {
+        Some(_) => Err(format!("record {number}: the safe engine sees the end")),
+        None => Ok(number),
+    }
+}
+
+/// The words due after a line: the chassis's, those of a refused Start, or, before any Start, those that were there.
+fn words_after(safe: &Replay<'_>, line: &Line) -> [u64; WORDS] {
+    match safe.chassis() {
+        Some(chassis) => chassis.words(),
+        None if line.subject == Subject::Start => unused_words(),
+        None => [ANY_WORD; WORDS],
+    }
+}
+
+/// Says which word is the first that differs, if any.
+fn same_words(proved: &[u64; WORDS], safe: &[u64; WORDS]) -> Result<(), String> {
+    let mut pairs = proved.iter().zip(safe).enumerate();
+    match pairs.find(|(_, (proved, safe))| proved != safe) {
+        Some((at, (proved, safe))) => Err(format!(
+            "word {at} is {proved} in the proved engine and {safe} in the safe one"
+        )),
+        None => Ok(()),
+    }
+}

@@ -1,0 +1,129 @@
+//! The words of a text's lines, each with its place, and what is wrong with
+//! them.
+
+use std::fmt;
+use std::str;
+
+/// The sign before a comment, which goes on to the line's end.
+const COMMENT: char = '#';
+
+/// A longer word is cut where it is quoted.
+const LONGEST_QUOTED: usize = 40;
+
+/// The first thing in a text that is not as it should be.
+#[derive(Clone, PartialEq, Eq, Debug)]
+pub struct Mistake {
+    /// The line and the column, in characters, both from 1.
+    pub line: usize,
+    pub column: usize,
+    /// What is wrong, in words.
+    pub what: String,
+}
+
+impl fmt::Display for Mistake {
+    /// As `3:9: a number from 0 to 255 is expected, not the line's end`.
+    fn fmt(&self, out: &mut fmt::Formatter<'_>) -> fmt::Result {
+        write!(out, "{}:{}: {}", self.line, self.column, self.what)
+    }
+}
+
+/// The text in bytes, if they are UTF-8; else the place of the first that is not.
+pub fn text_of(bytes: &[u8]) -> Result<&str, Mistake> {
+    str::from_utf8(bytes).map_err(|error| {
+        let sound = bytes.get(..error.valid_up_to()).unwrap_or(&[]);
+        let before = String::from_utf8_lossy(sound);
+        let last_line = before.rsplit('\n').next().unwrap_or("");
+        Mistake {
+            line: before.matches('\n').count() + 1,
+            column: last_line.chars().count() + 1,
+            what: "the text is not UTF-8".to_string(),
+        }
+    })
+}
+
+/// A word with the column of its first character.
+#[derive(Clone, Copy)]
+pub struct Word<'a> {
+    pub text: &'a str,
+    column: usize,
+}
+
+/// The words of one line that are not yet taken, the next one last.
+pub struct Words<'a> {
+    line: usize,
+    left: Vec<Word<'a>>,
+    /// The column behind the line's last word.
+    end: usize,
+}
+
+impl<'a> Words<'a> {
+    /// The words of the line of this number, without the comment.
+    pub fn of_line(line: usize, text: &'a str) -> Words<'a> {
+        let text = text.split(COMMENT).next().unwrap_or("");
+        let mut left = Vec::new();
+        let (mut column, mut end) = (1, 1);
+        for text in text.split(|character: char| character.is_ascii_whitespace()) {
+            let after = column + text.chars().count();
+            if !text.is_empty() {
+                left.push(Word { text, column });
+                end = after;
+            }
+            // One more for the blank behind it.
+            column = after + 1;
+        }
+        left.reverse();
+        Words { line, left, end }
+    }
+
+    /// Takes the next word, if there is one.
+    pub fn take(&mut self) -> Option<Word<'a>> {
+        self.left.pop()
+    }
+
+    /// Whether every word is taken.
+    pub fn is_over(&self) -> bool {
+        self.left.is_empty()
+    }
+
+    /// Takes the next word if `read` makes something of it.
+    pub fn expect<T>(
+        &mut self,
+        expected: &str,
+        read: impl Fn(&str) -> Option<T>,
+    ) -> Result<T, Mistake> {
+        let word = self.take();
+        let found = word.and_then(|word| read(word.text));
+        found.ok_or_else(|| self.mistake(word, expected))
+    }
+
+    /// Sees that no word is left.
+    pub fn end(&mut self) -> Result<(), Mistake> {
+        match self.take() {
+            Some(word) => Err(self.mistake(Some(word), "the line's end is expected")),
+            None => Ok(()),
+        }
+    }
+
+    /// The mistake at a word, or at the line's end.
+    pub fn mistake(&self, found: Option<Word<'_>>, expected: &str) -> Mistake {
+        let (column, found) = match found {
+            Some(word) => (word.column, quoted(word.text)),
+            None => (self.end, "the line's end".to_string()),
+        };
+        Mistake {
+            line: self.line,
+            column,
+            what: format!("{expected}, not {found}"),
+        }
+    }
+}
+
+/// A word in a message: a long one is cut, and what cannot be seen is written
+/// out.
+fn quoted(word: &str) -> String {
+    let mut shown: String = word.chars().take(LONGEST_QUOTED).collect();
+    if shown.len() < word.len() {
+        shown.push_str("..");
+    }
+    format!("`{}`", shown.escape_debug())
+}
