@@ -19,4 +19,4 @@ all-fields (Happens (Copy i)) = refl
 all-fields (Happens (Rejoin k)) = refl
 
 pub sizes-hold : Sizes-hold
-sizes-hold = record { all-words = refl; all-fields = all-fields; longest-line = refl }
+sizes-hold = record { all-words = refl; all-fields = all-fields; all-standing = λ l q n. refl; longest-line = refl }

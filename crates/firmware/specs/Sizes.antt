@@ -1,11 +1,15 @@
 -- The sizes that include/coherence.h names: how much is lent to the exported functions.
 use Prim.Native.Nat.{ℕ}
+use mathlib.Core.List.{List}
 use mathlib.Core.Path.{_≡_}
 use lib.ListN.{length}
 use Rattle.journal.specs.Text.{mostLine}
 use Rattle.journal.specs.declared.kinds.Record.{Record}
 use Rattle.engine.specs.Layout.{allWords}
+use Rattle.engine.specs.declared.run.Reached.{Reached}
+use Rattle.engine.specs.declared.run.Ran.the-variants.{More}
 use Rattle.firmware.specs.Fields as Fields
+use Rattle.firmware.specs.Journals.{standingAfter}
 
 -- the words of a chassis
 abbrev pub words : ℕ
@@ -27,4 +31,5 @@ line = 46
 pub record Sizes-hold : Type 0 where
   pub all-words : allWords ≡ words
   pub all-fields : (r : Record) → length (Fields.fields r) ≡ fields
+  pub all-standing : (l : List ℕ) (q : Reached) (n : ℕ) → length (standingAfter l (More q n)) ≡ standing
   pub longest-line : mostLine ≡ line
