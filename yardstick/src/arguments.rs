@@ -49,6 +49,16 @@ impl Arguments {
         Ok(Some(self.words.remove(at)))
     }
 
+    /// Takes `-o` and the name of the file to write, if it is there; `-` is one.
+    pub fn take_out(&mut self) -> Result<Option<String>, String> {
+        match self.take_option("-o", "a file")? {
+            Some(word) if word != STANDARD && (word.is_empty() || word.starts_with('-')) => {
+                Err(format!("-o needs a file, not {word:?}"))
+            }
+            out => Ok(out),
+        }
+    }
+
     /// Takes the name of a file, which is needed; `-` is one.
     pub fn take_file(&mut self, what: &str) -> Result<String, String> {
         if self.words.first().is_some_and(|word| word == STANDARD) {

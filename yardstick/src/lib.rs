@@ -25,6 +25,7 @@ pub mod marked;
 pub mod names;
 pub mod order;
 pub mod picked;
+pub mod picture;
 pub mod queue;
 pub mod random;
 pub mod refusal;

@@ -3,6 +3,7 @@
 #![forbid(unsafe_code)]
 
 use std::env;
+use std::ffi::OsStr;
 use std::fs;
 use std::io::{self, IsTerminal, Read, Write};
 use std::path::Path;
@@ -15,6 +16,7 @@ use yardstick::explain::{explain, Look};
 use yardstick::files::{read_whole, write_whole, LONGEST_JOURNAL, LONGEST_TEXT, STANDARD};
 use yardstick::generate::generate;
 use yardstick::make::make;
+use yardstick::picture::{page, Picture};
 use yardstick::replay::{replay, JOURNAL_LIMIT};
 use yardstick::show::show;
 use yardstick::stored;
@@ -27,6 +29,7 @@ usage:
   yardstick show FILE                                   a journal in a readable form
   yardstick make FILE [-o JOURNAL]                      the journal of a readable form
   yardstick explain FILE                                what each record of a journal changes
+  yardstick picture FILE [-o PAGE.html]                 a journal as a page for the browser
   yardstick compare PROGRAM [--from SEED] [--count N]   another program's output with this one's
   yardstick stored DIR [--check]                        the stored journals, written or checked
 FILE may be - for standard input.";
@@ -73,6 +76,7 @@ fn run() -> Result<(), Failure> {
         "show" => run_show(arguments),
         "make" => run_make(arguments),
         "explain" => run_explain(arguments),
+        "picture" => run_picture(arguments),
         "compare" => run_compare(arguments),
         "stored" => run_stored(arguments),
         _ => Err(Failure::Usage(format!("unknown command {command}"))),
@@ -118,8 +122,7 @@ fn run_show(mut arguments: Arguments) -> Result<(), Failure> {
 }
 
 fn run_make(mut arguments: Arguments) -> Result<(), Failure> {
-    let out = arguments.take_option("-o", "a file");
-    let out = out.map_err(Failure::Usage)?;
+    let out = arguments.take_out().map_err(Failure::Usage)?;
     let file = arguments.take_file("FILE").map_err(Failure::Usage)?;
     arguments.end().map_err(Failure::Usage)?;
     let text = read_in(&file, LONGEST_TEXT)?;
@@ -142,6 +145,24 @@ fn run_explain(mut arguments: Arguments) -> Result<(), Failure> {
         Look::Plain
     };
     write_out(explain(&journal, look).as_bytes())
+}
+
+fn run_picture(mut arguments: Arguments) -> Result<(), Failure> {
+    let out = arguments.take_out().map_err(Failure::Usage)?;
+    let file = arguments.take_file("FILE").map_err(Failure::Usage)?;
+    arguments.end().map_err(Failure::Usage)?;
+    let journal = read_in(&file, LONGEST_JOURNAL)?;
+    let page = page(short_name(&file), &Picture::of(&journal));
+    match out.filter(|name| name != STANDARD) {
+        Some(name) => write_beside(&file, &name, page.as_bytes()),
+        None => write_out(page.as_bytes()),
+    }
+}
+
+/// A file's name without the directories that lead to it.
+fn short_name(file: &str) -> &str {
+    let last = Path::new(name_of(file)).file_name();
+    last.and_then(OsStr::to_str).unwrap_or(name_of(file))
 }
 
 fn run_compare(mut arguments: Arguments) -> Result<(), Failure> {
@@ -190,7 +211,7 @@ fn write_beside(read: &str, written: &str, bytes: &[u8]) -> Result<(), Failure> 
         _ => false,
     };
     if is_same {
-        return Err(Failure::Work(format!("{written} is the text itself")));
+        return Err(Failure::Work(format!("{written} is what is read")));
     }
     write_whole(Path::new(written), bytes)
         .map_err(|error| Failure::Work(format!("{written}: {error}")))

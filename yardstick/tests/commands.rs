@@ -36,7 +36,7 @@ fn run(directory: &Path, words: &[&str], input: &[u8]) -> Output {
 
 /// Command lines that are not understood.
 #[rustfmt::skip]
-const BAD_USE: [&[&str]; 21] = [
+const BAD_USE: [&[&str]; 29] = [
     &[],
     &["unknown"],
     &["replay", "more"],
@@ -53,6 +53,14 @@ const BAD_USE: [&[&str]; 21] = [
     &["make", "text", "-o", "one", "two"],
     &["explain"],
     &["explain", "--colour", "journal"],
+    &["make", "text", "-o", "-x"],
+    &["make", "text", "-o", ""],
+    &["picture"],
+    &["picture", "a", "b"],
+    &["picture", "a", "-o"],
+    &["picture", "a", "-o", "-x"],
+    &["picture", "a", "-o", ""],
+    &["picture", "a", "-o", "b", "-o", "c"],
     &["compare", "--count", "1"],
     &["compare", "p", "--from", "18446744073709551615", "--count", "1"],
     &["stored", "--chek"],
@@ -90,6 +98,34 @@ fn what_is_generated_is_replayed_and_shown() {
         output.stdout,
         yardstick::show::show(&journal, usize::MAX).as_bytes()
     );
+}
+
+#[test]
+fn a_picture_is_written_whole_or_not_at_all() {
+    let directory = directory("picture");
+    let journal = yardstick::generate::generate(3, false);
+    fs::write(directory.join("journal"), &journal).expect("the journal is written");
+    let shown = run(&directory, &["picture", "journal"], &[]);
+    let words = ["picture", "journal", "-o", "page.html"];
+    let output = run(&directory, &words, &[]);
+    assert!(shown.status.success() && output.status.success());
+    assert!(output.stdout.is_empty());
+    let written = fs::read(directory.join("page.html")).expect("the page is written");
+    assert_eq!(shown.stdout, written);
+    let piped = run(&directory, &["picture", "-"], &journal).stdout;
+    assert!(String::from_utf8_lossy(&piped).contains("<title>standard input - "));
+    fs::create_dir(directory.join("taken")).expect("a directory is in the way");
+    for words in [
+        ["picture", "journal", "-o", "taken"],
+        ["picture", "journal", "-o", "none/page.html"],
+        ["picture", "no-such-journal", "-o", "other.html"],
+    ] {
+        let output = run(&directory, &words, &[]);
+        assert_eq!(output.status.code(), Some(1), "{words:?}");
+        assert!(!output.stderr.is_empty(), "{words:?}");
+    }
+    let left = fs::read_dir(&directory).expect("the directory is there");
+    assert_eq!(left.count(), 3);
 }
 
 #[test]
@@ -146,7 +182,7 @@ fn the_same_program_shows_no_difference() {
 }
 
 /// The commands that read a file.
-const READERS: [&str; 3] = ["show", "make", "explain"];
+const READERS: [&str; 4] = ["show", "make", "explain", "picture"];
 
 /// Sees that a command fails with status 1, says why, and writes nothing.
 fn fails(directory: &Path, words: &[&str], why: &str) {
@@ -268,9 +304,9 @@ fn make_replaces_a_file_and_nothing_else() {
     fails(
         &directory,
         &["make", "text", "-o", "text"],
-        "is the text itself",
+        "is what is read",
     );
-    for other in ["folder", "link", "/dev/null", "no/such/folder", ""] {
+    for other in ["folder", "link", "/dev/null", "no/such/folder"] {
         fails(&directory, &["make", "text", "-o", other], other);
     }
     assert!(run(&directory, &["make", "text", "-o", "old"], &[])

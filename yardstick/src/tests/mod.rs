@@ -9,6 +9,7 @@ mod make;
 mod marked;
 mod order;
 mod picked;
+mod picture;
 mod replay;
 mod show;
 mod words;

@@ -1,0 +1,173 @@
+//! The picture of a journal: each record with its answer and with what it
+//! changed in the chassis, as the engine did it, and the page that draws them.
+
+mod changes;
+mod page;
+pub(crate) mod words;
+
+pub use page::page;
+
+use changes::Change;
+
+use crate::chassis::Chassis;
+use crate::events::Event;
+use crate::journal::{Reader, Record};
+use crate::refusal::Refusal;
+use crate::replay::{counted, Line, Replay};
+
+/// What the page needs to know of a journal.
+pub struct Picture {
+    /// How many bytes count.
+    pub(crate) bytes: usize,
+    /// Whether bytes follow that do not count.
+    pub(crate) has_unread: bool,
+    /// The sizes of the chassis; none if it was never started.
+    pub(crate) sizes: Option<(u8, u8)>,
+    pub(crate) steps: Vec<Step>,
+}
+
+/// A record with what became of it.
+pub(crate) struct Step {
+    pub(crate) line: Line,
+    pub(crate) kind: Kind,
+    /// The block and the card in which the record is marked, if any.
+    pub(crate) block: Option<u8>,
+    pub(crate) card: Option<u8>,
+    /// The record, or the bytes that are none.
+    pub(crate) text: String,
+    /// The record in a word or two, for a narrow place.
+    pub(crate) mark: String,
+    /// The answer in words.
+    pub(crate) words: String,
+    pub(crate) changes: Vec<Change>,
+}
+
+/// What a step is, by the number that the page knows it by.
+#[derive(Clone, Copy, PartialEq, Eq, Debug)]
+pub(crate) enum Kind {
+    Start = 0,
+    Load = 1,
+    Store = 2,
+    Ask = 3,
+    Drop = 4,
+    Order = 5,
+    Deliver = 6,
+    Copy = 7,
+    Rejoin = 8,
+    /// Bytes that are no record.
+    Damage = 9,
+}
+
+/// A record as it was read, with the states that it stands between.
+pub(crate) struct Seen<'a> {
+    pub(crate) line: Line,
+    /// None if the bytes are no record.
+    pub(crate) record: Option<Record>,
+    /// The bytes from the record's place on.
+    pub(crate) rest: &'a [u8],
+    pub(crate) before: &'a Chassis,
+    pub(crate) after: &'a Chassis,
+}
+
+impl Picture {
+    /// Runs a journal and keeps what each record changed.
+    pub fn of(journal: &[u8]) -> Picture {
+        let read = counted(journal);
+        let mut reader = Reader::new(read);
+        let mut replay = Replay::new(read);
+        let mut before = Chassis::unused();
+        let mut steps = Vec::new();
+        while let Some(line) = replay.next() {
+            let record = reader.read().ok().flatten();
+            let after = replay.chassis().cloned().unwrap_or(Chassis::unused());
+            let seen = Seen {
+                line,
+                record,
+                rest: read.get(line.place..).unwrap_or(&[]),
+                before: &before,
+                after: &after,
+            };
+            steps.push(seen.step());
+            before = after;
+        }
+        Picture {
+            bytes: read.len(),
+            has_unread: journal.len() > read.len(),
+            sizes: replay.chassis().map(|last| (last.cards, last.blocks)),
+            steps,
+        }
+    }
+
+    /// Whether the last record ended the run before the journal's end.
+    pub(crate) fn ends(&self) -> bool {
+        let last = self.steps.last().map(|step| step.line.answer);
+        last.is_some_and(|answer| answer.is_err_and(Refusal::ends_the_run))
+    }
+}
+
+impl Seen<'_> {
+    /// The step that the page is given.
+    fn step(&self) -> Step {
+        let (block, card) = self.concerns();
+        Step {
+            line: self.line,
+            kind: self.kind(),
+            block: block.filter(|block| *block < self.after.blocks),
+            card: card.filter(|card| *card < self.after.cards),
+            text: words::text(self),
+            mark: words::mark(self),
+            words: words::answer(self),
+            changes: changes::changes(self),
+        }
+    }
+
+    /// The event, if the record is one.
+    pub(crate) fn event(&self) -> Option<Event> {
+        match self.record {
+            Some(Record::Event(event)) => Some(event),
+            _ => None,
+        }
+    }
+
+    /// What the record is.
+    fn kind(&self) -> Kind {
+        match self.record {
+            None => Kind::Damage,
+            Some(Record::Opening { .. }) => Kind::Start,
+            Some(Record::Event(event)) => match event {
+                Event::Load { .. } => Kind::Load,
+                Event::Store { .. } => Kind::Store,
+                Event::Ask { .. } => Kind::Ask,
+                Event::Drop { .. } => Kind::Drop,
+                Event::Order => Kind::Order,
+                Event::Deliver { .. } => Kind::Deliver,
+                Event::Copy { .. } => Kind::Copy,
+                Event::Rejoin { .. } => Kind::Rejoin,
+            },
+        }
+    }
+
+    /// The block and the card that the record is about: for an Order those of
+    /// the head, for Deliver and Copy those that the message goes to.
+    fn concerns(&self) -> (Option<u8>, Option<u8>) {
+        match self.event() {
+            Some(
+                Event::Load { card, block }
+                | Event::Store { card, block, .. }
+                | Event::Ask { card, block, .. }
+                | Event::Drop { card, block },
+            ) => (Some(block), Some(card)),
+            Some(Event::Order) => {
+                let head = self.before.head();
+                (head.map(|head| head.block), head.map(|head| head.card))
+            }
+            Some(Event::Deliver { position } | Event::Copy { position }) => {
+                let message = self.before.pool.get(usize::from(position));
+                let receiver = message.map(|message| message.receiver);
+                (message.map(|message| message.block), receiver)
+            }
+            Some(Event::Rejoin { card }) => (None, Some(card)),
+            None => (None, None),
+        }
+    }
+}
