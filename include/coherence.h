@@ -2,7 +2,8 @@
  * The coherence engine of a rack management chassis.
  *
  * Up to eight cards share up to 32 blocks and cache them; home orders their requests. The caller lends the state of a chassis as
- * COHERENCE_WORDS words, and the engine changes it in place. There is no other state: no heap, no global variable, no libc.
+ * COHERENCE_WORDS words, and the engine changes it in place. There is no other state, no heap and no global variable, and nothing is
+ * needed from outside but memcpy, memmove and memset.
  *
  * Every function takes any input, ends, and answers one number: the refusal's number, or 0, in the upper 32 bits, and the value in the
  * lower 32 (COHERENCE_REFUSAL, COHERENCE_VALUE). A refusal has value 0 and changes nothing of what is lent; Start alone makes the state
