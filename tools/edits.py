@@ -60,6 +60,18 @@ def read_edit(path):
     return pairs
 
 
+def misfits(crate, path):
+    """The pairs of an edit whose old text is not just once in its file, with the pairs before it made; as `rt must-fail` reads them."""
+    texts, found = {}, []
+    for pair in read_edit(path):
+        file = crate / pair.file
+        text = texts.get(pair.file) or (file.read_text(encoding="utf-8") if file.is_file() else "")
+        if text.count(pair.old) != 1:
+            found.append(pair)
+        texts[pair.file] = text.replace(pair.old, pair.new, 1)
+    return found
+
+
 def broken_claims(path):
     """The claims whose proofs an edit has to break."""
     return [line.partition(": ")[2] for line in path.read_text(encoding="utf-8").split("\n") if line.startswith("breaks: ")]
