@@ -20,7 +20,7 @@ use Rattle.firmware.specs.declared.fields.Named.{Named}
 use Rattle.firmware.specs.declared.fields.Named.the-variants.{One, Unknown}
 
 pub halves-tell : Halves-tell
-halves-tell r q a b e = (omega arith, omega arith)
+halves-tell r l = (omega arith, omega arith)
 
 -- the numbers of one answer are one number
 says-unique : {P Q : Answer → Type 0} (n m : ℕ) (a : Says P n) (b : Says Q m) → a .answer ≡ b .answer → n ≡ m

@@ -1,5 +1,5 @@
 -- An answer as one number.
-use Prim.Native.Nat.{ℕ, _+_, _*_, _^_, _<_}
+use Prim.Native.Nat.{ℕ, _+_, _*_, _^_, _/_, _%_, _<_}
 use mathlib.Core.Path.{_≡_}
 use Rattle.rules.specs.Answers.{refusalOf, valueOf}
 use Rattle.rules.specs.declared.kinds.Answer.{Answer}
@@ -12,9 +12,9 @@ half = 2 ^ 32
 abbrev pub number : Answer → ℕ
 number r = refusalOf r * half + valueOf r
 
--- what is claimed of it: the number tells the refusal and the value, where the value is below a half
+-- what is claimed of it: the upper half is the refusal and the lower the value, where the value is below a half
 abbrev pub Halves-tell : Type 0
-Halves-tell = (r q : Answer) → valueOf r < half → valueOf q < half → number r ≡ number q → (refusalOf r ≡ refusalOf q) × (valueOf r ≡ valueOf q)
+Halves-tell = (r : Answer) → valueOf r < half → (number r / half ≡ refusalOf r) × (number r % half ≡ valueOf r)
 
 -- n is the number of an answer that keeps a promise
 pub record Says (Keeps : Answer → Type 0) (n : ℕ) : Type 0 where
