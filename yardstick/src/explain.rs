@@ -2,13 +2,12 @@
 
 use std::fmt::{self, Write};
 
-use crate::changes::{changes, Change};
-use crate::chassis::Chassis;
 use crate::events::Event;
-use crate::journal::{read_record, Record};
-use crate::refusal::Refusal;
-use crate::replay::{counted, Line, Replay, JOURNAL_LIMIT};
+use crate::journal::Record;
+use crate::replay::{counted, Line, JOURNAL_LIMIT};
+use crate::run::{Run, Seen};
 use crate::show::Many;
+use crate::told::{told, Told};
 
 /// What an accepted Start makes.
 const FRESH: &str = "cells I (0), values 0, memory 0, owners home (255), no sharers, line and \
@@ -46,33 +45,20 @@ pub fn explain(journal: &[u8], look: Look) -> String {
 
 /// Writes what `explain` answers.
 fn write_run(out: &mut String, journal: &[u8], look: Look) -> fmt::Result {
-    let mut replay = Replay::new(journal);
-    let mut before: Option<Chassis> = None;
+    let mut run = Run::new(journal);
     let mut last = None;
-    while let Some(line) = replay.next() {
-        // What cannot be read has its refusal in the line.
-        let read = read_record(counted(journal), line.place).unwrap_or(None);
-        let record = read.map(|(record, _)| record);
-        let changed = record.map_or_else(Vec::new, |record| {
-            changed_by(record, before.as_ref(), replay.chassis(), line.answer)
-        });
-        write_line(out, record, &line, &changed, look)?;
-        before = replay.chassis().cloned();
-        last = Some(line);
+    while let Some(seen) = run.see() {
+        write_seen(out, &seen, look)?;
+        last = Some(seen.line);
     }
     write_end(out, journal, last)
 }
 
-/// What a record changed.
-fn changed_by(
-    record: Record,
-    before: Option<&Chassis>,
-    after: Option<&Chassis>,
-    answer: Result<u32, Refusal>,
-) -> Vec<Change> {
-    match (record, before, after) {
-        (Record::Event(event), Some(before), Some(after)) => changes(before, after, event, answer),
-        (Record::Opening { .. }, None, Some(_)) => vec![Change {
+/// What a record changed, in words.
+fn changed(seen: &Seen) -> Vec<Told> {
+    match (seen.record, seen.line.answer) {
+        (Some(Record::Event(event)), answer) => told(seen.before, event, answer, &seen.changes()),
+        (Some(Record::Opening { .. }), Ok(_)) => vec![Told {
             part: "all",
             how: FRESH.to_string(),
         }],
@@ -81,13 +67,8 @@ fn changed_by(
 }
 
 /// Writes a record with its answer and what it changed.
-fn write_line(
-    out: &mut String,
-    record: Option<Record>,
-    line: &Line,
-    changed: &[Change],
-    look: Look,
-) -> fmt::Result {
+fn write_seen(out: &mut String, seen: &Seen, look: Look) -> fmt::Result {
+    let Seen { record, line, .. } = *seen;
     let words = record.map_or_else(|| "no record".to_string(), |record| record.to_string());
     let head = format!("{} {words}", line.number);
     let place = format!("# at byte {}", line.place);
@@ -97,8 +78,9 @@ fn write_line(
         look.paint(BOLD, format!("{head:<46}")),
         look.paint(DIM, place)
     )?;
-    write_answer(out, record, line, look)?;
-    for change in changed {
+    write_answer(out, record, &line, look)?;
+    let changed = changed(seen);
+    for change in &changed {
         writeln!(out, "  {:<6} {}", change.part, change.how)?;
     }
     if changed.is_empty() {

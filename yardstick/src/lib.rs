@@ -30,11 +30,13 @@ pub mod queue;
 pub mod random;
 pub mod refusal;
 pub mod replay;
+pub mod run;
 pub mod script;
 pub mod show;
 pub mod stored;
 pub mod table;
 pub mod text;
+pub mod told;
 pub mod words;
 
 #[cfg(test)]

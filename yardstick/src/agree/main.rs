@@ -1,6 +1,7 @@
-//! Whether both engines agree, word for word: over the journals of seeds, every second one damaged, the safe chassis laid out as words is
-//! after every record what the proved engine's words are, with the same answer. Also whether `make` gives again the journal that `show`
-//! shows, and whether the proved engine's own run writes what a replay writes. Stops at the first difference.
+//! Whether both engines agree, word for word: over the journals of seeds, every second one damaged, the chassis that the changes told by
+//! `explain` and `picture` lead to is after every record what the proved engine's words are, with the same answer. Also whether `make`
+//! gives again the journal that `show` shows, and whether the proved engine's own run writes what a replay writes. Stops at the first
+//! difference.
 //!
 //!     agree [--from SEED] [--count N]
 
@@ -14,9 +15,12 @@ use std::process::ExitCode;
 
 use yardstick::arguments::Arguments;
 use yardstick::cases::Subject;
+use yardstick::chassis::Chassis;
 use yardstick::generate::generate;
+use yardstick::journal::Record;
 use yardstick::make::make;
-use yardstick::replay::{counted, replay, Line, Replay};
+use yardstick::replay::{counted, replay, Line};
+use yardstick::run::{Run, Seen};
 use yardstick::show::show;
 use yardstick::words::{unused_words, WORDS};
 
@@ -95,23 +99,26 @@ fn proved_text(journal: &[u8]) -> Vec<u8> {
     whole
 }
 
-/// Runs a journal by both engines, record by record, and compares the answers and the words.
+/// Runs a journal by both engines, record by record, and compares the answers and the words. The words due are not the second program's
+/// own, but those of a chassis to which nothing is done but the changes that `explain` and `picture` tell.
 fn check_words(journal: &[u8]) -> Result<u64, String> {
-    let mut safe = Replay::new(journal);
+    let mut run = Run::new(journal);
     let mut state = [ANY_WORD; WORDS];
+    let mut told = None;
     let (mut number, mut place) = (0, 0);
-    while let Some(line) = safe.next() {
-        let told = firmware::step(&mut state, counted(journal), &mut place, number)
+    while let Some(seen) = run.see() {
+        let answer = firmware::step(&mut state, counted(journal), &mut place, number)
             .ok_or_else(|| format!("record {number}: the proved engine sees the end"))?;
-        let (refusal, value) = line.numbers();
-        let due = (u32::from(refusal), value as u64, line.is_last());
-        if (told.refusal, told.value, told.is_last) != due {
+        let (refusal, value) = seen.line.numbers();
+        let due = (u32::from(refusal), value as u64, seen.line.is_last());
+        if (answer.refusal, answer.value, answer.is_last) != due {
             return Err(format!("record {number}: the answers differ"));
         }
-        same_words(&state, &words_after(&safe, &line))
+        tell(&mut told, &seen);
+        same_words(&state, &words_after(told.as_ref(), &seen.line))
             .map_err(|what| format!("record {number}: {what}"))?;
         number += 1;
-        if line.is_last() {
+        if seen.line.is_last() {
             return Ok(number);
         }
     }
@@ -121,9 +128,20 @@ fn check_words(journal: &[u8]) -> Result<u64, String> {
     }
 }
 
+/// Makes the changes told of a record: the whole chassis at Start, which has no other record before it.
+fn tell(told: &mut Option<Chassis>, seen: &Seen<'_>) {
+    match (told, seen.record) {
+        (Some(told), _) => seen.changes().iter().for_each(|change| change.make(told)),
+        (told, Some(Record::Opening { cards, blocks })) => {
+            *told = Chassis::start(cards, blocks).ok()
+        }
+        _ => {}
+    }
+}
+
 /// The words due after a line: the chassis's, those of a refused Start, or, before any Start, those that were there.
-fn words_after(safe: &Replay<'_>, line: &Line) -> [u64; WORDS] {
-    match safe.chassis() {
+fn words_after(told: Option<&Chassis>, line: &Line) -> [u64; WORDS] {
+    match told {
         Some(chassis) => chassis.words(),
         None if line.subject == Subject::Start => unused_words(),
         None => [ANY_WORD; WORDS],

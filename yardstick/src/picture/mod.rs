@@ -1,19 +1,18 @@
 //! The picture of a journal: each record with its answer and with what it
 //! changed in the chassis, as the engine did it, and the page that draws them.
 
-mod changes;
+mod numbers;
 mod page;
 pub(crate) mod words;
 
 pub use page::page;
 
-use changes::Change;
-
-use crate::chassis::Chassis;
+use crate::changes::Change;
 use crate::events::Event;
-use crate::journal::{Reader, Record};
+use crate::journal::Record;
 use crate::refusal::Refusal;
-use crate::replay::{counted, Line, Replay};
+use crate::replay::{counted, Line};
+use crate::run::{Run, Seen};
 
 /// What the page needs to know of a journal.
 pub struct Picture {
@@ -58,42 +57,19 @@ pub(crate) enum Kind {
     Damage = 9,
 }
 
-/// A record as it was read, with the states that it stands between.
-pub(crate) struct Seen<'a> {
-    pub(crate) line: Line,
-    /// None if the bytes are no record.
-    pub(crate) record: Option<Record>,
-    /// The bytes from the record's place on.
-    pub(crate) rest: &'a [u8],
-    pub(crate) before: &'a Chassis,
-    pub(crate) after: &'a Chassis,
-}
-
 impl Picture {
     /// Runs a journal and keeps what each record changed.
     pub fn of(journal: &[u8]) -> Picture {
-        let read = counted(journal);
-        let mut reader = Reader::new(read);
-        let mut replay = Replay::new(read);
-        let mut before = Chassis::unused();
+        let mut run = Run::new(journal);
         let mut steps = Vec::new();
-        while let Some(line) = replay.next() {
-            let record = reader.read().ok().flatten();
-            let after = replay.chassis().cloned().unwrap_or(Chassis::unused());
-            let seen = Seen {
-                line,
-                record,
-                rest: read.get(line.place..).unwrap_or(&[]),
-                before: &before,
-                after: &after,
-            };
-            steps.push(seen.step());
-            before = after;
+        while let Some(seen) = run.see() {
+            steps.push(step(&seen));
         }
+        let bytes = counted(journal).len();
         Picture {
-            bytes: read.len(),
-            has_unread: journal.len() > read.len(),
-            sizes: replay.chassis().map(|last| (last.cards, last.blocks)),
+            bytes,
+            has_unread: journal.len() > bytes,
+            sizes: run.chassis().map(|last| (last.cards, last.blocks)),
             steps,
         }
     }
@@ -105,69 +81,59 @@ impl Picture {
     }
 }
 
-impl Seen<'_> {
-    /// The step that the page is given.
-    fn step(&self) -> Step {
-        let (block, card) = self.concerns();
-        Step {
-            line: self.line,
-            kind: self.kind(),
-            block: block.filter(|block| *block < self.after.blocks),
-            card: card.filter(|card| *card < self.after.cards),
-            text: words::text(self),
-            mark: words::mark(self),
-            words: words::answer(self),
-            changes: changes::changes(self),
-        }
+/// The step that the page is given.
+fn step(seen: &Seen) -> Step {
+    let (block, card) = concerns(seen);
+    Step {
+        line: seen.line,
+        kind: kind(seen),
+        block: block.filter(|block| *block < seen.after.blocks),
+        card: card.filter(|card| *card < seen.after.cards),
+        text: words::text(seen),
+        mark: words::mark(seen),
+        words: words::answer(seen),
+        changes: seen.changes(),
     }
+}
 
-    /// The event, if the record is one.
-    pub(crate) fn event(&self) -> Option<Event> {
-        match self.record {
-            Some(Record::Event(event)) => Some(event),
-            _ => None,
-        }
+/// What the record is.
+fn kind(seen: &Seen) -> Kind {
+    match seen.record {
+        None => Kind::Damage,
+        Some(Record::Opening { .. }) => Kind::Start,
+        Some(Record::Event(event)) => match event {
+            Event::Load { .. } => Kind::Load,
+            Event::Store { .. } => Kind::Store,
+            Event::Ask { .. } => Kind::Ask,
+            Event::Drop { .. } => Kind::Drop,
+            Event::Order => Kind::Order,
+            Event::Deliver { .. } => Kind::Deliver,
+            Event::Copy { .. } => Kind::Copy,
+            Event::Rejoin { .. } => Kind::Rejoin,
+        },
     }
+}
 
-    /// What the record is.
-    fn kind(&self) -> Kind {
-        match self.record {
-            None => Kind::Damage,
-            Some(Record::Opening { .. }) => Kind::Start,
-            Some(Record::Event(event)) => match event {
-                Event::Load { .. } => Kind::Load,
-                Event::Store { .. } => Kind::Store,
-                Event::Ask { .. } => Kind::Ask,
-                Event::Drop { .. } => Kind::Drop,
-                Event::Order => Kind::Order,
-                Event::Deliver { .. } => Kind::Deliver,
-                Event::Copy { .. } => Kind::Copy,
-                Event::Rejoin { .. } => Kind::Rejoin,
-            },
+/// The block and the card that the record is about: for an Order those of
+/// the head, for Deliver and Copy those that the message goes to.
+fn concerns(seen: &Seen) -> (Option<u8>, Option<u8>) {
+    match seen.event() {
+        Some(
+            Event::Load { card, block }
+            | Event::Store { card, block, .. }
+            | Event::Ask { card, block, .. }
+            | Event::Drop { card, block },
+        ) => (Some(block), Some(card)),
+        Some(Event::Order) => {
+            let head = seen.before.head();
+            (head.map(|head| head.block), head.map(|head| head.card))
         }
-    }
-
-    /// The block and the card that the record is about: for an Order those of
-    /// the head, for Deliver and Copy those that the message goes to.
-    fn concerns(&self) -> (Option<u8>, Option<u8>) {
-        match self.event() {
-            Some(
-                Event::Load { card, block }
-                | Event::Store { card, block, .. }
-                | Event::Ask { card, block, .. }
-                | Event::Drop { card, block },
-            ) => (Some(block), Some(card)),
-            Some(Event::Order) => {
-                let head = self.before.head();
-                (head.map(|head| head.block), head.map(|head| head.card))
-            }
-            Some(Event::Deliver { position } | Event::Copy { position }) => {
-                let message = self.before.pool.get(usize::from(position));
-                let receiver = message.map(|message| message.receiver);
-                (message.map(|message| message.block), receiver)
-            }
-            Some(Event::Rejoin { card }) => (None, Some(card)),
-            None => (None, None),
+        Some(Event::Deliver { position } | Event::Copy { position }) => {
+            let message = seen.before.pool.get(usize::from(position));
+            let receiver = message.map(|message| message.receiver);
+            (message.map(|message| message.block), receiver)
         }
+        Some(Event::Rejoin { card }) => (None, Some(card)),
+        None => (None, None),
     }
 }

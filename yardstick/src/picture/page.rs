@@ -3,6 +3,7 @@
 use std::collections::HashMap;
 use std::fmt::Write;
 
+use super::numbers::numbers;
 use super::words::MEANINGS;
 use super::{Kind, Picture, Step};
 use crate::refusal::Refusal;
@@ -179,7 +180,7 @@ fn step_data(step: &Step, texts: &mut Texts) -> String {
     let changes: Vec<String> = step
         .changes
         .iter()
-        .map(|change| format!("[{}]", joined(&change.numbers())))
+        .map(|change| format!("[{}]", joined(&numbers(change))))
         .collect();
     format!(
         "[{},{},{},{},{},{refusal},{value},{},{},[{}]]",

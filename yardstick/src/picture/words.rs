@@ -1,10 +1,10 @@
 //! A record and its answer in words, and the names of the states.
 
-use super::Seen;
 use crate::chassis::{Chassis, Message, Request, HOME};
 use crate::events::{Delivered, Event, Ordered};
 use crate::journal::Record;
 use crate::names::{Kind, State};
+use crate::run::Seen;
 use crate::table::STATES;
 
 /// How many bytes that are no record are written out.

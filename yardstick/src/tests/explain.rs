@@ -8,6 +8,7 @@ use crate::random::Random;
 use crate::replay::{replay, JOURNAL_LIMIT};
 use crate::script::{ask, copy, deliver, journal_of, order, rejoin, start, store};
 use crate::tests::started;
+use crate::told::told;
 
 /// M2, whole.
 const M2: &str = "\
@@ -280,7 +281,8 @@ fn nothing_is_told_exactly_where_nothing_changed() {
         for event in events {
             let before = chassis.clone();
             let answer = chassis.apply(event);
-            let told = changes(&before, &chassis, event, answer);
+            let found = changes(&before, &chassis, event);
+            let told = told(&before, event, answer, &found);
             assert_eq!(told.is_empty(), before == chassis, "{event}");
         }
     }

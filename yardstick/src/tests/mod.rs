@@ -12,6 +12,7 @@ mod picked;
 mod picture;
 mod replay;
 mod show;
+mod told;
 mod words;
 
 use crate::chassis::Chassis;

@@ -1,0 +1,84 @@
+//! The run of a journal, record by record, with the states that each record
+//! stands between.
+
+use std::mem;
+
+use crate::changes::{changes, Change};
+use crate::chassis::Chassis;
+use crate::events::Event;
+use crate::journal::{read_record, Record};
+use crate::replay::{counted, Line, Replay};
+
+/// The run of a journal.
+pub struct Run<'a> {
+    journal: &'a [u8],
+    replay: Replay<'a>,
+    /// The chassis before the record and after it: before any Start, the
+    /// one of 0 cards and 0 blocks.
+    before: Chassis,
+    after: Chassis,
+}
+
+/// A record with its answer and the states that it stands between.
+#[derive(Clone, Copy)]
+pub struct Seen<'a> {
+    pub line: Line,
+    /// None if the bytes are no record.
+    pub record: Option<Record>,
+    /// The bytes from the record's place on.
+    pub rest: &'a [u8],
+    pub before: &'a Chassis,
+    pub after: &'a Chassis,
+}
+
+impl<'a> Run<'a> {
+    /// The run of a journal, before its first record.
+    pub fn new(journal: &'a [u8]) -> Run<'a> {
+        Run {
+            journal: counted(journal),
+            replay: Replay::new(journal),
+            before: Chassis::unused(),
+            after: Chassis::unused(),
+        }
+    }
+
+    /// The chassis reached, once there is one.
+    pub fn chassis(&self) -> Option<&Chassis> {
+        self.replay.chassis()
+    }
+
+    /// The next record, run. None at the end of the run.
+    pub fn see(&mut self) -> Option<Seen<'_>> {
+        let line = self.replay.next()?;
+        if let Some(chassis) = self.replay.chassis() {
+            self.before = mem::replace(&mut self.after, chassis.clone());
+        }
+        // What cannot be read has its refusal in the line.
+        let read = read_record(self.journal, line.place).unwrap_or(None);
+        Some(Seen {
+            line,
+            record: read.map(|(record, _)| record),
+            rest: self.journal.get(line.place..).unwrap_or(&[]),
+            before: &self.before,
+            after: &self.after,
+        })
+    }
+}
+
+impl Seen<'_> {
+    /// The event, if the record is one.
+    pub fn event(&self) -> Option<Event> {
+        match self.record {
+            Some(Record::Event(event)) => Some(event),
+            _ => None,
+        }
+    }
+
+    /// What the record changed, if it is an event.
+    pub fn changes(&self) -> Vec<Change> {
+        match self.event() {
+            Some(event) => changes(self.before, self.after, event),
+            None => Vec::new(),
+        }
+    }
+}
