@@ -2,7 +2,7 @@
 use Prim.Native.Nat.{ℕ, zero, suc, _≤_, _<_}
 use native.Mathlib.Omega.{arith}
 use mathlib.Core.Bool.{Bool, true, true≢false}
-use mathlib.Core.List.{List, [], _∷_, _++_, map, List·Memᴰ, List·Memᴰ·head, List·Memᴰ·tail}
+use mathlib.Core.List.{List, [], _∷_, _++_, map}
 use mathlib.Core.Path.{_≡_, refl, sym, ap, fun-ext}
 use mathlib.Core.Logic.{_≢_}
 use lib.ListN.{length, getD, drop}
@@ -76,16 +76,9 @@ module _ {A : Type 0} where
   all-of P f (x ∷ xs) = (f x, all-of P f xs)
 
   -- each element is changed by g
-  pub All-each-in : (P Q : A → Type 0) (g : A → A) (xs : List A) → ((x : A) → List·Memᴰ x xs → P x → Q (g x))
-      → All P xs → All Q (map g xs)
-  All-each-in P Q g [] f h = tt
-  All-each-in P Q g (x ∷ xs) f h = (
-    f x (List·Memᴰ·head refl) (h .0),
-    All-each-in P Q g xs (λ y m. f y (List·Memᴰ·tail m)) (h .1),
-  )
-
   pub All-each : (P Q : A → Type 0) (g : A → A) → ((x : A) → P x → Q (g x)) → (xs : List A) → All P xs → All Q (map g xs)
-  All-each P Q g f xs h = All-each-in P Q g xs (λ x _. f x) h
+  All-each P Q g f [] h = tt
+  All-each P Q g f (x ∷ xs) h = (f x (h .0), All-each P Q g f xs (h .1))
 
   pub removed-short : (i : ℕ) (xs : List A) → length (removed i xs) ≤ length xs
   unfolding removed

@@ -1,7 +1,7 @@
 -- The stores of a log: the last that counts is the current one, who loaded the unsettled ones, and how the struck ones came to be.
 use Prim.Native.Nat.{ℕ}
 use mathlib.Core.Bool.{Bool, true, false, cond, not, _&&_, true≢false}
-use mathlib.Core.List.{List, [], _∷_, map, List·Memᴰ, Memᴰ·cast}
+use mathlib.Core.List.{List, [], _∷_, map}
 use mathlib.Core.Path.{_≡_, refl, sym, _∙_, ap}
 use mathlib.Core.Logic.{_≢_}
 use lib.Dec.{eqb}
@@ -30,9 +30,9 @@ use Rattle.rules.specs.History.{
   loadedBy,
   written,
 }
-use Rattle.rules.specs.Demand.{LoadsLast, StruckByRejoin}
+use Rattle.rules.specs.Demand.{LoadsLast, NotSettled, StruckByRejoin}
 use Rattle.rules.proofs.Tests.{clash, test, cond-cases, and-l, and-r}
-use Rattle.rules.proofs.Lists.{All-map, All-map₂, All-each, All-each-in, all-of, keep-all}
+use Rattle.rules.proofs.Lists.{All-map, All-map₂, All-each, all-of, keep-all}
 use Rattle.rules.proofs.Board.{notBy, pending, pick, here, base, current, pick-keep}
 
 -- Fates
@@ -239,6 +239,78 @@ unsettled-pending P b (quiet ∷ log) h = unsettled-pending P b log h
 abbrev Unseen : Written → Type 0
 Unseen w = w .fate ≢ settled → All (λ k. k ≡ w .card) (w .loaders)
 
+-- Stores that home has not settled
+
+unfoldable isSettling : Did → Bool
+isSettling (loaded k b v) = false
+isSettling (stored k b v) = false
+isSettling (settles b) = true
+isSettling (rejoined k) = false
+isSettling quiet = false
+
+-- the block that an entry settles
+unfoldable settledBlock : Did → ℕ
+settledBlock (loaded k b v) = 0
+settledBlock (stored k b v) = 0
+settledBlock (settles b) = b
+settledBlock (rejoined k) = 0
+settledBlock quiet = 0
+
+no-settling : (d : Did) → isSettling d ≡ false → (b : ℕ) → d ≢ settles b
+unfolding isSettling
+no-settling d h b e = true≢false (sym (ap isSettling e) ∙ h)
+
+other-settling : (b b′ : ℕ) → b ≢ b′ → settles b′ ≢ settles b
+unfolding settledBlock
+other-settling b b′ ne e = ne (sym (ap settledBlock e))
+
+abbrev Open : List Did → Written → Type 0
+Open log w = w .fate ≡ unsettled → NotSettled log w
+
+-- the same store with other loaders and another fate
+same-store : (log : List Did) (w : Written) (ls : List ℕ) (f : Fate) → NotSettled log w
+    → NotSettled log (record { serial = w .serial; card = w .card; block = w .block; value = w .value; loaders = ls; fate = f })
+same-store log w ls f o = record {
+  since = o .since;
+  earlier = o .earlier;
+  made-then = o .made-then;
+  this-store = o .this-store;
+  none-settles = o .none-settles;
+}
+
+open-grows : (d : Did) (log : List Did) (w : Written) → d ≢ settles (w .block) → NotSettled log w → NotSettled (d ∷ log) w
+open-grows d log w n o = record {
+  since = d ∷ o .since;
+  earlier = o .earlier;
+  made-then = ap (λ l. d ∷ l) (o .made-then);
+  this-store = o .this-store;
+  none-settles = (n, o .none-settles);
+}
+
+-- every unsettled store is one that nothing settled since it was made
+not-settled : (log : List Did) → All (Open log) (written log)
+unfolding written isSettling
+not-settled [] = tt
+not-settled (loaded k b v ∷ log) =
+    let d = loaded k b v in
+    let grown : (w : Written) → Open log w → Open (d ∷ log) w = λ w q u. open-grows d log w (no-settling d refl (w .block)) (q u) in
+    loaded-all (Open log) (Open (d ∷ log)) k b grown
+    (λ w _ q u. same-store (d ∷ log) w (k ∷ w .loaders) (w .fate) (grown w q u)) (written log) (not-settled log)
+not-settled (stored k b v ∷ log) = (
+  (λ _. record { since = []; earlier = log; made-then = refl; this-store = refl; none-settles = tt }),
+  All-map (λ w q u. open-grows (stored k b v) log w (no-settling (stored k b v) refl (w .block)) (q u)) (written log) (not-settled log),
+)
+not-settled (settles b ∷ log) = All-each (Open log) (Open (settles b ∷ log)) (settle b)
+    (λ w q. settle-cases (Open (settles b ∷ log)) b w
+    (λ _ u. absurd (meets-settled (w .fate) u)) (λ ne u. open-grows (settles b) log w (other-settling (w .block) b ne) (q u)))
+    (written log) (not-settled log)
+not-settled (rejoined k ∷ log) = All-each (Open log) (Open (rejoined k ∷ log)) (strike k)
+    (λ w q. strike-cases (Open (rejoined k ∷ log)) k w
+    (λ _ u. absurd (meets-struck (w .fate) u)) (λ _ u. open-grows (rejoined k) log w (no-settling (rejoined k) refl (w .block)) (q u)))
+    (written log) (not-settled log)
+not-settled (quiet ∷ log) =
+    All-map (λ w q u. open-grows quiet log w (no-settling quiet refl (w .block)) (q u)) (written log) (not-settled log)
+
 -- Struck stores
 
 abbrev Struck : List Did → Written → Type 0
@@ -250,27 +322,27 @@ struck-grows d log w f s = record {
   later = d ∷ s .later;
   earlier = s .earlier;
   at-rejoin = ap (λ l. d ∷ l) (s .at-rejoin);
-  unsettled-then = s .unsettled-then;
+  not-settled = same-store (s .earlier) w (w .loaders) f (s .not-settled);
 }
 
 -- one that its card's rejoin strikes now
-struck-now : (log : List Did) (k : ℕ) (w : Written) (f : Fate) → w .card ≡ k → w .fate ≡ unsettled → List·Memᴰ w (written log)
+struck-now : (log : List Did) (k : ℕ) (w : Written) (f : Fate) → w .card ≡ k → NotSettled log w
     → StruckByRejoin (rejoined k ∷ log) (withFate f w)
-struck-now log k w f e u m = record {
+struck-now log k w f e o = record {
   later = [];
   earlier = log;
   at-rejoin = ap (λ j. rejoined j ∷ log) (sym e);
-  unsettled-then = Memᴰ·cast (ap (λ f. withFate f w) (sym u)) m;
+  not-settled = same-store log w (w .loaders) f o;
 }
 
-rejoin-strikes : (log : List Did) (k : ℕ) (w : Written) → List·Memᴰ w (written log) → Struck log w → Struck (rejoined k ∷ log) (strike k w)
+rejoin-strikes : (log : List Did) (k : ℕ) (w : Written) → Open log w → Struck log w → Struck (rejoined k ∷ log) (strike k w)
 unfolding meets
-rejoin-strikes log k w m p =
+rejoin-strikes log k w o p =
     let before : (f : Fate) → w .fate ≡ struck → StruckByRejoin (rejoined k ∷ log) (withFate f w)
     = λ f s. struck-grows (rejoined k) log w f (p s) in
     strike-cases (Struck (rejoined k ∷ log)) k w
     (λ e s. fate-cases (w .fate)
-    (λ u. struck-now log k w (meets struck (w .fate)) e u m)
+    (λ u. struck-now log k w (meets struck (w .fate)) e (o u))
     (λ t. absurd (settled≢struck (sym (ap (meets struck) t) ∙ s)))
     (before (meets struck (w .fate))))
     (λ _. before (w .fate))
@@ -331,7 +403,9 @@ past-more log (rejoined k) h p = record {
   loads-last = p .loads-last;
   unseen = All-each Unseen Unseen (strike k)
       (λ w q. strike-cases Unseen k w (λ _ n. q (λ s. n (ap (meets struck) s))) (λ _. q)) (written log) (p .unseen);
-  struck-ok = All-each-in (Struck log) (Struck (rejoined k ∷ log)) (strike k) (written log) (rejoin-strikes log k) (p .struck-ok);
+  struck-ok = All-each (λ w. Open log w × Struck log w) (Struck (rejoined k ∷ log)) (strike k)
+      (λ w q. rejoin-strikes log k w (q .0) (q .1)) (written log)
+      (All-map₂ (λ w o q. (o, q)) (written log) (not-settled log) (p .struck-ok));
 }
 past-more log quiet h p = record {
   loads-last = p .loads-last;

@@ -1,9 +1,10 @@
--- Demand 3, sentence by sentence. Its last field is what the engine needs besides.
+-- Demand 3, sentence by sentence; its last field says of 15 what the paper says of 13.
 use Prim.Native.Nat.{ℕ}
 use mathlib.Core.Bool.{Bool, true, false}
-use mathlib.Core.List.{List, [], _∷_, _++_, List·Memᴰ}
+use mathlib.Core.List.{List, [], _∷_, _++_}
 use mathlib.Core.Path.{_≡_}
 use mathlib.Core.Logic.{_≢_}
+use lib.ListN.{length}
 use Rattle.rules.specs.Lists.{All}
 use Rattle.rules.specs.Chassis.{Chassis}
 use Rattle.rules.specs.Events.{step}
@@ -16,9 +17,7 @@ use Rattle.rules.specs.History.{
   quiet,
   Run,
   Written,
-  unsettled,
   struck,
-  withFate,
   lastStore,
   written,
 }
@@ -37,12 +36,20 @@ LoadsLast (settles b ∷ log) = LoadsLast log
 LoadsLast (rejoined k ∷ log) = LoadsLast log
 LoadsLast (quiet ∷ log) = LoadsLast log
 
--- at some point of the log the store's own card rejoined, and the store was unsettled then
+-- the store was made at some point of the log, and no entry since then settles its block
+pub record NotSettled (log : List Did) (w : Written) : Type 0 where
+  pub since : List Did
+  pub earlier : List Did
+  pub made-then : log ≡ since ++ stored (w .card) (w .block) (w .value) ∷ earlier
+  pub this-store : w .serial ≡ length (written earlier)
+  pub none-settles : All (λ d. d ≢ settles (w .block)) since
+
+-- at some point of the log the store's own card rejoined, and home had not settled the store by then
 pub record StruckByRejoin (log : List Did) (w : Written) : Type 0 where
   pub later : List Did
   pub earlier : List Did
   pub at-rejoin : log ≡ later ++ rejoined (w .card) ∷ earlier
-  pub unsettled-then : List·Memᴰ (withFate unsettled w) (written earlier)
+  pub not-settled : NotSettled earlier w
 
 -- the event would be accepted
 abbrev pub isDone : Answer → Bool
