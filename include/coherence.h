@@ -6,10 +6,10 @@
  * needed from outside but memcpy, memmove and memset.
  *
  * Every function takes any input, ends, and answers one number: the refusal's number, or 0, in the upper 32 bits, and the value in the
- * lower 32 (COHERENCE_REFUSAL, COHERENCE_VALUE). A refusal has value 0 and changes nothing of what is lent; Start alone makes the state
- * of no chassis where it refuses. Words that are not those of a well formed chassis are refused with COHERENCE_ILL_FORMED, before all
- * else. Each function is proved to do just this (crates/firmware); what is left to the caller is that the pointers are valid for the
- * sizes given here and that no two of them overlap.
+ * lower 32 (COHERENCE_REFUSAL, COHERENCE_VALUE); the value is 0 where nothing else is said. A refusal changes nothing of what is lent;
+ * Start alone makes the state of no chassis where it refuses. Start takes any words; every other event refuses words that are not those
+ * of a well formed chassis with COHERENCE_ILL_FORMED, before all else. Each function is proved to do just this (crates/firmware); what is
+ * left to the caller is that the pointers are valid for the sizes given here and that no two of them overlap.
  */
 #ifndef COHERENCE_H
 #define COHERENCE_H
@@ -63,7 +63,7 @@ enum coherence_kind {
 /* The value of an order that is done. */
 enum coherence_outcome {
     COHERENCE_GRANTED = 1,
-    COHERENCE_MASK_TOO_SMALL = 2, /* the request is at the line's tail again, with a larger mask */
+    COHERENCE_MASK_TOO_SMALL = 2, /* the request is at the line's tail again, with a mask that home made */
     COHERENCE_PUT_TAKEN = 3,
     COHERENCE_PUT_LAPSED = 4
 };
@@ -71,7 +71,7 @@ enum coherence_outcome {
 /* The value of a delivery. */
 enum coherence_delivery {
     COHERENCE_TAKEN = 1,
-    COHERENCE_STALE = 2 /* no card awaits this message any more; it is gone */
+    COHERENCE_STALE = 2 /* its receiver does not await this message; it is gone */
 };
 
 /* Makes the state of a new chassis, in which every block is 0; of none, with COHERENCE_NO_SUCH_SIZE. */
@@ -140,8 +140,8 @@ uint64_t coherence_write(uint8_t *buffer, size_t size, size_t *place, uint8_t ta
 
 /* Where a run over a journal stands. All are 0 before the first piece. */
 enum coherence_standing {
-    COHERENCE_NUMBER,  /* of the next record, from 0 */
-    COHERENCE_PLACE,   /* of the next record, in bytes */
+    COHERENCE_NUMBER,  /* of the next record, from 0, or of the one that ended the run */
+    COHERENCE_PLACE,   /* of the same record, in bytes */
     COHERENCE_WRITTEN, /* bytes of text that the last piece wrote */
     COHERENCE_STANDING
 };
@@ -151,8 +151,10 @@ enum coherence_standing {
 
 /*
  * Runs over a journal from where a run stands, as long as a longest line fits into the text, one line a record: its number, the refusal or
- * 0, the value. Value 1: there may be more, call it again with the same state, journal and standing. Value 0: the run is over. The state
- * may be any words before the first piece.
+ * 0, the value. Value 1: there may be more, call it again with the same state, journal and standing. Value 0: the run is over, at the
+ * journal's end or at a record that ended it; a further call carries out no event a second time. The state may be any words before the
+ * first piece; later, words that are not those of a well formed chassis are refused with COHERENCE_ILL_FORMED, and so is a standing whose
+ * number is above its place.
  */
 uint64_t coherence_run(uint64_t state[COHERENCE_WORDS], const uint8_t *journal, size_t size, uint64_t standing[COHERENCE_STANDING],
                        uint8_t *text, size_t text_size);

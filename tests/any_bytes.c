@@ -152,6 +152,16 @@ static void records(uint8_t *journal, uint64_t *fields)
     }
 }
 
+/* A run that is over, called again, carries out nothing a second time. */
+static void again(uint64_t *state, uint64_t *before, const uint8_t *journal, uint64_t *standing, uint8_t *text)
+{
+    memcpy(before, state, STATE_BYTES);
+    coherence_run(state, journal, JOURNAL, standing, text, TEXT);
+    calls++;
+    if (memcmp(before, state, STATE_BYTES) != 0)
+        fail("a run that is over changed the state when it was called again");
+}
+
 /* Runs over random journals, piece by piece, from random words and, now and then, from a random standing. */
 static void runs(uint64_t *state, uint64_t *before, uint8_t *journal, uint8_t *text)
 {
@@ -188,8 +198,10 @@ static void runs(uint64_t *state, uint64_t *before, uint8_t *journal, uint8_t *t
             if (memcmp(old + TEXT - size + standing[COHERENCE_WRITTEN], text + TEXT - size + standing[COHERENCE_WRITTEN],
                        size - standing[COHERENCE_WRITTEN]) != 0)
                 fail("text behind what was written was touched");
-            if (COHERENCE_VALUE(answer) == 0)
+            if (COHERENCE_VALUE(answer) == 0) {
+                again(state, before, journal, standing, text);
                 break;
+            }
         }
     }
 }

@@ -8,12 +8,12 @@ use mathlib.Core.Path.{_≡_, refl, sym, ap, _∙_}
 use lib.ListN.{length, getD, set}
 use Rattle.rules.specs.Lists.{replace, removed}
 use Rattle.rules.specs.Numbers.{mostCards, mostBlocks, room}
-use Rattle.rules.specs.Chassis.{Chassis, cellChanged, poolChanged}
+use Rattle.rules.specs.Chassis.{Chassis, cellChanged, poolChanged, unusedRequest, unusedMessage}
 use Rattle.rules.specs.declared.kinds.Cell.{Cell}
 use Rattle.rules.specs.declared.kinds.Request.{Request}
 use Rattle.rules.specs.declared.kinds.Message.{Message}
 use Rattle.engine.specs.Layout.{placeWords, lineAt, poolAt}
-use Rattle.engine.specs.Words.{requestRow, messageRow, words, waitingOf, pooledOf, noRequest, noMessage}
+use Rattle.engine.specs.Words.{requestRow, messageRow, words, waitingOf, pooledOf}
 use Rattle.engine.specs.Parts.{
   homeChanged,
   lineChanged,
@@ -78,7 +78,7 @@ lineWords c n f = image (record {
   last = c .last .0;
   block = c .block;
   line = f;
-  pool = λ i. getD (c .pool) i noMessage;
+  pool = λ i. getD (c .pool) i unusedMessage;
 })
 
 abbrev poolWords : Chassis → ℕ → (ℕ → Message) → List ℕ
@@ -89,7 +89,7 @@ poolWords c n f = image (record {
   pooled = n;
   last = c .last .0;
   block = c .block;
-  line = λ i. getD (c .line) i noRequest;
+  line = λ i. getD (c .line) i unusedRequest;
   pool = f;
 })
 
@@ -132,7 +132,7 @@ module _ (c : Chassis) (w : List ℕ) (e : w ≡ words c) where
       → w₂ ≡ words (lineChanged c (c .line ++ r ∷ []))
   push-request r n w₁ w₂ en h e₁ e₂ =
       let is : n ≡ length (c .line) = en ∙ waiting-of c w e in
-      pushed noRequest (lineWords c) 2 lineAt putRequest (line-store c) (line-count c) (c .line) r w w₁ w₂ (rw (← is) h) at
+      pushed unusedRequest (lineWords c) 2 lineAt putRequest (line-store c) (line-count c) (c .line) r w w₁ w₂ (rw (← is) h) at
       (e₁ ∙ ap (λ k. putRequest w k r) is) (e₂ ∙ ap (λ k. set w₁ 2 (k + 1)) is)
       ∙ sym (words-image (lineChanged c (c .line ++ r ∷ [])))
 
@@ -140,27 +140,27 @@ module _ (c : Chassis) (w : List ℕ) (e : w ≡ words c) where
       → w₂ ≡ words (poolChanged c (c .pool ++ m ∷ []))
   push-message m n w₁ w₂ en h e₁ e₂ =
       let is : n ≡ length (c .pool) = en ∙ pooled-of c w e in
-      pushed noMessage (poolWords c) 3 poolAt putMessage (pool-store c) (pool-count c) (c .pool) m w w₁ w₂ (rw (← is) h) at
+      pushed unusedMessage (poolWords c) 3 poolAt putMessage (pool-store c) (pool-count c) (c .pool) m w w₁ w₂ (rw (← is) h) at
       (e₁ ∙ ap (λ k. putMessage w k m) is) (e₂ ∙ ap (λ k. set w₁ 3 (k + 1)) is)
       ∙ sym (words-image (poolChanged c (c .pool ++ m ∷ [])))
 
   -- item a leaves, the later ones close up to the last place, z, and that is cleared
   pub remove-request : (a z : ℕ) (w₁ w₂ w₃ : List ℕ) → z + 1 ≡ waitingOf w → a ≤ z → z < room → w₁ ≡ closing w lineAt a (z - a)
-      → w₂ ≡ putRequest w₁ z noRequest → w₃ ≡ set w₂ 2 z → w₃ ≡ words (lineChanged c (removed a (c .line)))
+      → w₂ ≡ putRequest w₁ z unusedRequest → w₃ ≡ set w₂ 2 z → w₃ ≡ words (lineChanged c (removed a (c .line)))
   remove-request a z w₁ w₂ w₃ ez h k e₁ e₂ e₃ =
       let t = z - a in
       let is : z ≡ a + t = omega arith in
       let long : length (c .line) ≡ suc (a + t) = omega (arith, waiting-of c w e) in
-      left noRequest (lineWords c) 2 lineAt putRequest (line-store c) (line-count c) (line-copy c) (c .line) a t w w₁ w₂ w₃ long
-      (omega arith) at e₁ (e₂ ∙ ap (λ q. putRequest w₁ q noRequest) is) (e₃ ∙ ap (set w₂ 2) is)
+      left unusedRequest (lineWords c) 2 lineAt putRequest (line-store c) (line-count c) (line-copy c) (c .line) a t w w₁ w₂ w₃ long
+      (omega arith) at e₁ (e₂ ∙ ap (λ q. putRequest w₁ q unusedRequest) is) (e₃ ∙ ap (set w₂ 2) is)
       ∙ sym (words-image (lineChanged c (removed a (c .line))))
 
   pub remove-message : (a z : ℕ) (w₁ w₂ w₃ : List ℕ) → z + 1 ≡ pooledOf w → a ≤ z → z < room → w₁ ≡ closing w poolAt a (z - a)
-      → w₂ ≡ putMessage w₁ z noMessage → w₃ ≡ set w₂ 3 z → w₃ ≡ words (poolChanged c (removed a (c .pool)))
+      → w₂ ≡ putMessage w₁ z unusedMessage → w₃ ≡ set w₂ 3 z → w₃ ≡ words (poolChanged c (removed a (c .pool)))
   remove-message a z w₁ w₂ w₃ ez h k e₁ e₂ e₃ =
       let t = z - a in
       let is : z ≡ a + t = omega arith in
       let long : length (c .pool) ≡ suc (a + t) = omega (arith, pooled-of c w e) in
-      left noMessage (poolWords c) 3 poolAt putMessage (pool-store c) (pool-count c) (pool-copy c) (c .pool) a t w w₁ w₂ w₃ long
-      (omega arith) at e₁ (e₂ ∙ ap (λ q. putMessage w₁ q noMessage) is) (e₃ ∙ ap (set w₂ 3) is)
+      left unusedMessage (poolWords c) 3 poolAt putMessage (pool-store c) (pool-count c) (pool-copy c) (c .pool) a t w w₁ w₂ w₃ long
+      (omega arith) at e₁ (e₂ ∙ ap (λ q. putMessage w₁ q unusedMessage) is) (e₃ ∙ ap (set w₂ 3) is)
       ∙ sym (words-image (poolChanged c (removed a (c .pool))))

@@ -9,7 +9,7 @@ use lib.ListN.{length, getD, set, length-append}
 use lib.Seq.{sets}
 use Rattle.rules.specs.Lists.{replace}
 use Rattle.rules.specs.Numbers.{mostCards, mostBlocks, room}
-use Rattle.rules.specs.Chassis.{Block, Chassis, withCell}
+use Rattle.rules.specs.Chassis.{Block, Chassis, withCell, unusedRequest, unusedMessage}
 use Rattle.rules.specs.declared.kinds.Cell.{Cell}
 use Rattle.rules.specs.declared.kinds.Request.{Request}
 use Rattle.rules.specs.declared.kinds.Message.{Message}
@@ -20,8 +20,6 @@ use Rattle.engine.specs.Words.{
   blockRow,
   requestRow,
   messageRow,
-  noRequest,
-  noMessage,
   words,
 }
 use Rattle.engine.specs.Parts.{putCell, putHome, placed, putRequest, putMessage}
@@ -47,8 +45,8 @@ plain c = record {
   pooled = length (c .pool);
   last = c .last .0;
   block = c .block;
-  line = λ i. getD (c .line) i noRequest;
-  pool = λ i. getD (c .pool) i noMessage;
+  line = λ i. getD (c .line) i unusedRequest;
+  pool = λ i. getD (c .pool) i unusedMessage;
 }
 
 abbrev header : Plain → List ℕ

@@ -11,7 +11,7 @@ use Rattle.rules.specs.Tests.{_⇒_, any, all, some}
 use Rattle.rules.specs.Masks.{has}
 use Rattle.rules.specs.Numbers.{mostCards, mostBlocks, home, room, lastNumber, gets, putx}
 use Rattle.rules.specs.Table.{canGive, comesFrom, putStands}
-use Rattle.rules.specs.Chassis.{Block, idle, cellOf}
+use Rattle.rules.specs.Chassis.{Block, idle, cellOf, unusedRequest}
 use Rattle.rules.specs.Formed.{homeOrCard, okRequest}
 use Rattle.rules.specs.Order.{held, impossible, noRoomFor, suffices, turn}
 use Rattle.rules.specs.declared.kinds.Request.{Request}
@@ -34,7 +34,6 @@ use Rattle.engine.specs.Words.{
   waitingOf,
   pooledOf,
   lastOf,
-  noRequest,
   cellAt,
   requestAt,
   memoryAt,
@@ -128,13 +127,13 @@ cards-few w f cards e = let s = sizes w f .few-cards in omega arith
 -- The head request
 
 module _ (w : List ℕ) (f : formed w ≡ true) (some : 0 < waitingOf w) (r : Request) (at : r ≡ requestAt w 0) where
-  pub head-is : getD (view w .line) 0 noRequest ≡ r
+  pub head-is : getD (view w .line) 0 unusedRequest ≡ r
   head-is = view-request w 0 some ∙ sym at
 
   -- it is well formed
   pub head-wf : RequestWf (view w .cards) (view w .blocks) r
   head-wf = request→ (view w .cards) (view w .blocks) r (rw (← head-is) (All-at (λ r. okRequest (view w .cards) (view w .blocks) r ≡ true)
-      (view w .line) 0 noRequest (let n = waiting-is w in omega arith) (wf w f .requests)))
+      (view w .line) 0 unusedRequest (let n = waiting-is w in omega arith) (wf w f .requests)))
 
   pub head-card : r .card < mostCards
   unfolding view

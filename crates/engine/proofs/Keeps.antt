@@ -45,6 +45,7 @@ use Rattle.rules.specs.Events.{
   rejoin,
   effect,
   start,
+  step,
 }
 use Rattle.rules.specs.declared.kinds.Cell.{Cell}
 use Rattle.rules.specs.declared.kinds.Request.{Request}
@@ -435,6 +436,13 @@ act-says w e h f =
     words-say (act c e .after)
     (subst (λ (o : Result). wellFormed (o .after) ≡ true) (step-act c e wf) (stays-formed c e wf))
     (act-kept (wf→ c wf) (view-kept w) e f)
+
+-- an event keeps a chassis that its words say
+pub step-says : (c : Chassis) (e : Event) → EventFits e → Says c → Says (step c e .after)
+step-says c e f h =
+    let well : wellFormed c ≡ true = subst (λ (d : Chassis). wellFormed d ≡ true) (h .1) (formed-chassis (words c) (h .0)) in
+    subst (λ (o : Result). Says (o .after)) (sym (step-act c e well))
+    (subst (λ (d : Chassis). Says (act d e .after)) (h .1) (act-says (words c) e (h .0) f))
 
 -- what does an event leaves formed words formed
 pub does-formed : (w : List ℕ) (e : Event) (r : Answer) (w′ : List ℕ) → formed w ≡ true → EventFits e → Does w e r w′ → formed w′ ≡ true

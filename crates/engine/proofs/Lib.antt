@@ -21,3 +21,4 @@ pub mod Started
 pub mod Told
 pub mod Went
 pub mod Joined
+pub mod Calls

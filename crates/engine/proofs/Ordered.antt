@@ -12,7 +12,7 @@ use borrow.Author.Tests.{leb-false, ltb-true, ltb-false}
 use Rattle.rules.specs.Lists.{removed}
 use Rattle.rules.specs.Numbers.{mostCards, room, lastNumber, putx}
 use Rattle.rules.specs.Table.{putStands}
-use Rattle.rules.specs.Chassis.{Block, Chassis, idle, cellOf, changed, poolChanged}
+use Rattle.rules.specs.Chassis.{Block, Chassis, idle, cellOf, changed, poolChanged, unusedRequest}
 use Rattle.rules.specs.Order.{
   held,
   impossible,
@@ -57,7 +57,6 @@ use Rattle.engine.specs.Words.{
   waitingOf,
   pooledOf,
   lastOf,
-  noRequest,
   cellAt,
   memoryAt,
   ownerAt,
@@ -167,7 +166,7 @@ module _ (w : List ℕ) (f : formed w ≡ true) (some : 0 < waitingOf w) (r : Re
 
   head-line : view w .line ≡ r ∷ rest
   unfolding rest
-  head-line = headed (view w .line) noRequest (let n = waiting-is w in omega arith) ∙ ap (λ x. x ∷ removed 0 (view w .line)) (head-is w f some r at)
+  head-line = headed (view w .line) unusedRequest (let n = waiting-is w in omega arith) ∙ ap (λ x. x ∷ removed 0 (view w .line)) (head-is w f some r at)
 
   pub head-refused : (x : Refusal) → No x ≡ judged (view w) r → Does w Order (Refused x) w
   unfolding reasons

@@ -11,7 +11,7 @@ use borrow.Author.Tests.{le-leb, lt-leb}
 use Rattle.rules.specs.Lists.{removed}
 use Rattle.rules.specs.Numbers.{mostCards, mostBlocks, room, taken, stale}
 use Rattle.rules.specs.Table.{waits}
-use Rattle.rules.specs.Chassis.{Chassis, cellOf, cellChanged, poolChanged}
+use Rattle.rules.specs.Chassis.{Chassis, cellOf, cellChanged, poolChanged, unusedMessage}
 use Rattle.rules.specs.Answers.{Result, result, Reason}
 use Rattle.rules.specs.Formed.{okMessage}
 use Rattle.rules.specs.Events.{messageAt as poolMessage, noMessage as noSuchMessage, live, takes, deliver, reasons, effect}
@@ -23,7 +23,7 @@ use Rattle.rules.specs.declared.kinds.Event.{Event}
 use Rattle.rules.specs.declared.kinds.Event.the-variants.{Deliver, Copy}
 use Rattle.rules.proofs.Lists.{All-at}
 use Rattle.rules.proofs.Formed.{message→}
-use Rattle.engine.specs.Words.{words, view, pooledOf, cellAt, messageAt, noMessage, formed}
+use Rattle.engine.specs.Words.{words, view, pooledOf, cellAt, messageAt, formed}
 use Rattle.engine.specs.Parts.{Does, Becomes, putCell}
 use Rattle.engine.proofs.View.{formed-words, view-cell, view-message, pooled-is, pooled-of}
 use Rattle.engine.proofs.Changes.{cell-words}
@@ -77,7 +77,7 @@ module _ (w : List ℕ) (f : formed w ≡ true) (i : ℕ) (h : i < pooledOf w) w
     known =
         let c = view w in
         let Ok : Message → Type 0 = λ x. okMessage (c .cards) (c .blocks) (c .last .0) x ≡ true in
-        let ok = All-at Ok (c .pool) i noMessage (omega (arith, pooled-is w)) (wf w f .messages) in
+        let ok = All-at Ok (c .pool) i unusedMessage (omega (arith, pooled-is w)) (wf w f .messages) in
         let t = message→ (c .cards) (c .blocks) (c .last .0) m (subst Ok message-is ok) in
         let s = sizes w f in
         (omega arith, omega arith)

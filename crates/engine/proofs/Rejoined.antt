@@ -15,7 +15,7 @@ use borrow.Author.Tests.{eq-eqb, ne-eqb, lt-ltb, le-ltb, ltb-true, ltb-false, lt
 use Rattle.rules.specs.Lists.{removed, keep, All}
 use Rattle.rules.specs.Masks.{only, without}
 use Rattle.rules.specs.Numbers.{mostCards, mostBlocks, home, room}
-use Rattle.rules.specs.Chassis.{Block, Chassis, idle, freshBlock}
+use Rattle.rules.specs.Chassis.{Block, Chassis, idle, freshBlock, unusedRequest}
 use Rattle.rules.specs.Events.{noCard, reasons, rejoinBlock, rejoin, effect}
 use Rattle.rules.specs.declared.kinds.Cell.{Cell}
 use Rattle.rules.specs.declared.kinds.Request.{Request}
@@ -39,7 +39,6 @@ use Rattle.engine.specs.Words.{
   ownerAt,
   sharersAt,
   requestAt,
-  noRequest,
   formed,
 }
 use Rattle.engine.specs.Parts.{Becomes, Does, homeChanged, lineChanged, putCell, putHome}
@@ -192,7 +191,7 @@ module _ (c : Chassis) (k : ℕ) (w : List ℕ) (i : ℕ) (x : Leaves c k w i) w
   -- past the last place all have left
   pub leaves-all : waitingOf w ≤ i → w ≡ words (lineLeft c k)
   leaves-all h =
-      let all = leaving-end (stays k) noRequest i (x .line) (omega (arith, waiting-now)) in
+      let all = leaving-end (stays k) unusedRequest i (x .line) (omega (arith, waiting-now)) in
       x .is ∙ ap (λ l. words (lineChanged c l)) (sym all ∙ x .left)
 
   -- the request at i, as the code reads it
@@ -200,23 +199,23 @@ module _ (c : Chassis) (k : ℕ) (w : List ℕ) (i : ℕ) (x : Leaves c k w i) w
     there : i < length (x .line)
     there = omega (arith, waiting-now)
 
-    card-is : r .card ≡ getD (x .line) i noRequest .card
+    card-is : r .card ≡ getD (x .line) i unusedRequest .card
     card-is =
         let p = lineAt + placeWords * i in
         ap (λ (q : Request). q .card) e
         ∙ ap (λ q. byte (getD w q 0)) (sym (add-zero p))
         ∙ ap (λ (l : List ℕ). byte (getD l (p + 0) 0)) (x .is ∙ words-image now)
         ∙ ap byte (get-request (plain now) i 0 (omega (arith, leaves-room)) (omega arith))
-        ∙ mod-eq-of-lt (All-at (λ r. r .card < 2 ^ 8) (x .line) i noRequest there (x .cards))
+        ∙ mod-eq-of-lt (All-at (λ r. r .card < 2 ^ 8) (x .line) i unusedRequest there (x .cards))
 
     -- another card's request stays
     pub leaves-pass : (r .card ≡ k → ⊥) → Leaves c k w (i + 1)
     leaves-pass ne =
-        let t : stays k (getD (x .line) i noRequest) ≡ true = rw (← card-is, ne-eqb (r .card) k ne) in
+        let t : stays k (getD (x .line) i unusedRequest) ≡ true = rw (← card-is, ne-eqb (r .card) k ne) in
         record {
           line = x .line;
           is = x .is;
-          left = ap (λ j. leaving (stays k) j (x .line)) (add-one i) ∙ leaving-pass (stays k) noRequest i (x .line) there t ∙ x .left;
+          left = ap (λ j. leaving (stays k) j (x .line)) (add-one i) ∙ leaving-pass (stays k) unusedRequest i (x .line) there t ∙ x .left;
           cards = x .cards;
           short = x .short;
         }
@@ -225,11 +224,11 @@ module _ (c : Chassis) (k : ℕ) (w : List ℕ) (i : ℕ) (x : Leaves c k w i) w
     module _ (is-k : r .card ≡ k) (w′ : List ℕ) (gone : Becomes w w′ (λ d. lineChanged d (removed i (d .line)))) where
       pub leaves-out : Leaves c k w′ i
       leaves-out =
-          let t : stays k (getD (x .line) i noRequest) ≡ false = rw (← card-is, eq-eqb (r .card) k is-k) in
+          let t : stays k (getD (x .line) i unusedRequest) ≡ false = rw (← card-is, eq-eqb (r .card) k is-k) in
           record {
             line = removed i (x .line);
             is = gone now (x .is);
-            left = leaving-out (stays k) noRequest i (x .line) there t ∙ x .left;
+            left = leaving-out (stays k) unusedRequest i (x .line) there t ∙ x .left;
             cards = All-removed (λ r. r .card < 2 ^ 8) i (x .line) (x .cards);
             short = let s = x .short in let g = removed-short i (x .line) in omega arith;
           }

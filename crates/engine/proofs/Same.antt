@@ -12,7 +12,7 @@ use lib.Dec.{eqb}
 use borrow.Author.Tests.{eqb-true, eq-eqb}
 use Rattle.rules.specs.Tests.{each}
 use Rattle.rules.specs.Numbers.{mostCards, mostBlocks, room}
-use Rattle.rules.specs.Chassis.{Block}
+use Rattle.rules.specs.Chassis.{Block, unusedRequest, unusedMessage}
 use Rattle.rules.proofs.Tests.{and-l, and-r, and-i}
 use Rattle.engine.specs.Layout.{headWords, homeWords, cellWords, blockWords, placeWords, blockAt, cellPlace, lineAt, poolAt, allWords}
 use Rattle.engine.specs.Words.{
@@ -21,8 +21,6 @@ use Rattle.engine.specs.Words.{
   blockRow,
   requestRow,
   messageRow,
-  noRequest,
-  noMessage,
   words,
   cardsOf,
   blocksOf,
@@ -109,8 +107,8 @@ rows-of m (suc n) base w =
 pub record Same (w : List ℕ) : Type 0 where
   pub home : (b : ℕ) → b < mostBlocks → homeIs w b (blockOf w b) ≡ true
   pub cell : (k b : ℕ) → k < mostCards → b < mostBlocks → cellIs w k b (cellAt w k b) ≡ true
-  pub request : (i : ℕ) → i < room → requestIs w i (getD (view w .line) i noRequest) ≡ true
-  pub message : (i : ℕ) → i < room → messageIs w i (getD (view w .pool) i noMessage) ≡ true
+  pub request : (i : ℕ) → i < room → requestIs w i (getD (view w .line) i unusedRequest) ≡ true
+  pub message : (i : ℕ) → i < room → messageIs w i (getD (view w .pool) i unusedMessage) ≡ true
 
 module _ (w : List ℕ) (e : w ≡ words (view w)) where
   at-image : (p x : ℕ) → getD (image (plain (view w))) p 0 ≡ x → getD w p 0 ≡ x
@@ -130,12 +128,12 @@ module _ (w : List ℕ) (e : w ≡ words (view w)) where
         ∙ row-tests w (cellRow x) (cellPlace k b) (λ r l.
         at-image (cellPlace k b + r) _ (get-cell (plain (view w)) k b r hk hb l ∙ ap (λ x. getD (cellRow x) r 0) (view-cell w k b hk hb)));
     request = λ i h.
-        let x = getD (view w .line) i noRequest in
+        let x = getD (view w .line) i unusedRequest in
         let p = lineAt + placeWords * i in
         five-row w p (x .card) (x .block) (x .kind) (x .mask) (x .retry .0)
         ∙ row-tests w (requestRow x) p (λ r l. at-image (p + r) _ (get-request (plain (view w)) i r h l));
     message = λ i h.
-        let x = getD (view w .pool) i noMessage in
+        let x = getD (view w .pool) i unusedMessage in
         let p = poolAt + placeWords * i in
         five-row w p (x .sender) (x .receiver) (x .block) (x .value) (x .number .0)
         ∙ row-tests w (messageRow x) p (λ r l. at-image (p + r) _ (get-message (plain (view w)) i r h l));
@@ -164,14 +162,14 @@ module _ (w : List ℕ) (len : length w ≡ allWords) (s : Same w) where
       (three-are (blockAt b) (B .memory) (B .owner) (B .sharers) (omega arith) (s .home b hb)
       ∙ ap (λ (B : Block). B .memory ∷ B .owner ∷ B .sharers ∷ []) (sym (view-block w b hb))))
 
-  request-is : (i : ℕ) → i < room → take placeWords (drop (lineAt + placeWords * i) w) ≡ requestRow (getD (view w .line) i noRequest)
+  request-is : (i : ℕ) → i < room → take placeWords (drop (lineAt + placeWords * i) w) ≡ requestRow (getD (view w .line) i unusedRequest)
   request-is i h =
-      let r = getD (view w .line) i noRequest in
+      let r = getD (view w .line) i unusedRequest in
       five-are (lineAt + placeWords * i) (r .card) (r .block) (r .kind) (r .mask) (r .retry .0) (omega arith) (s .request i h)
 
-  message-is : (i : ℕ) → i < room → take placeWords (drop (poolAt + placeWords * i) w) ≡ messageRow (getD (view w .pool) i noMessage)
+  message-is : (i : ℕ) → i < room → take placeWords (drop (poolAt + placeWords * i) w) ≡ messageRow (getD (view w .pool) i unusedMessage)
   message-is i h =
-      let m = getD (view w .pool) i noMessage in
+      let m = getD (view w .pool) i unusedMessage in
       five-are (poolAt + placeWords * i) (m .sender) (m .receiver) (m .block) (m .value) (m .number .0) (omega arith) (s .message i h)
 
   -- the header says what is read off it

@@ -11,7 +11,7 @@ use Rattle.rules.specs.Tests.{each, all}
 use Rattle.rules.specs.Lists.{All}
 use Rattle.rules.specs.Masks.{inside}
 use Rattle.rules.specs.Numbers.{mostCards, mostBlocks, home, room}
-use Rattle.rules.specs.Chassis.{idle, freshBlock}
+use Rattle.rules.specs.Chassis.{idle, freshBlock, unusedRequest, unusedMessage}
 use Rattle.rules.specs.Formed.{sizes, homeOrCard, okCell, unusedCell, unusedBlock, okRequest, okMessage}
 use Rattle.rules.proofs.Tests.{test, and-l, and-r, and-i, each→, →each, all-elim, all-intro}
 use Rattle.rules.proofs.Lists.{All-at}
@@ -31,8 +31,6 @@ use Rattle.rules.proofs.Formed.{
 }
 use Rattle.engine.specs.Layout.{blockAt, cellPlace, allWords}
 use Rattle.engine.specs.Words.{
-  noRequest,
-  noMessage,
   cardsOf,
   blocksOf,
   waitingOf,
@@ -236,10 +234,10 @@ module _ (w : List ℕ) where
   -- The words whole
 
   abbrev requests : ℕ → Bool
-  requests = slot noRequest (waitingOf w) (requestAt w) (requestIs w) (okRequest (cardsOf w) (blocksOf w))
+  requests = slot unusedRequest (waitingOf w) (requestAt w) (requestIs w) (okRequest (cardsOf w) (blocksOf w))
 
   abbrev messages : ℕ → Bool
-  messages = slot noMessage (pooledOf w) (messageAt w) (messageIs w) (okMessage (cardsOf w) (blocksOf w) (lastOf w))
+  messages = slot unusedMessage (pooledOf w) (messageAt w) (messageIs w) (okMessage (cardsOf w) (blocksOf w) (lastOf w))
 
   -- what the tests say
   module _ (h : tested w ≡ true) where
@@ -263,9 +261,9 @@ module _ (w : List ℕ) where
     tested-same = record {
       home = λ b hb. block-home b (block-passes b hb);
       cell = λ k b hk hb. block-cell b (block-passes b hb) k hk;
-      request = λ i l. slot-is noRequest (waitingOf w) (requestAt w) (requestIs w) (okRequest (cardsOf w) (blocksOf w)) i (request-passes i l);
+      request = λ i l. slot-is unusedRequest (waitingOf w) (requestAt w) (requestIs w) (okRequest (cardsOf w) (blocksOf w)) i (request-passes i l);
       message = λ i l.
-          slot-is noMessage (pooledOf w) (messageAt w) (messageIs w) (okMessage (cardsOf w) (blocksOf w) (lastOf w)) i (message-passes i l);
+          slot-is unusedMessage (pooledOf w) (messageAt w) (messageIs w) (okMessage (cardsOf w) (blocksOf w) (lastOf w)) i (message-passes i l);
     }
 
     head-wf : HeadWf w
@@ -278,10 +276,10 @@ module _ (w : List ℕ) where
       line-room = omega (arith, head-wf .waiting, length-first (waitingOf w) (requestAt w));
       pool-room = omega (arith, head-wf .pooled, length-first (pooledOf w) (messageAt w));
       requests = first-all _ (waitingOf w) (requestAt w) (λ i l.
-          slot-ok noRequest (waitingOf w) (requestAt w) (requestIs w) (okRequest (cardsOf w) (blocksOf w)) i
+          slot-ok unusedRequest (waitingOf w) (requestAt w) (requestIs w) (okRequest (cardsOf w) (blocksOf w)) i
           (request-passes i (omega (arith, head-wf .waiting))) l);
       messages = first-all _ (pooledOf w) (messageAt w) (λ i l.
-          slot-ok noMessage (pooledOf w) (messageAt w) (messageIs w) (okMessage (cardsOf w) (blocksOf w) (lastOf w)) i
+          slot-ok unusedMessage (pooledOf w) (messageAt w) (messageIs w) (okMessage (cardsOf w) (blocksOf w) (lastOf w)) i
           (message-passes i (omega (arith, head-wf .pooled))) l);
       used = λ b hb l. rw (lt-ltb b mostBlocks hb) (block-wf b (block-passes b hb) l);
       unused = λ b hb l. rw (lt-ltb b mostBlocks hb) (block-unused b (block-passes b hb) l);
@@ -301,10 +299,10 @@ module _ (w : List ℕ) where
           block-test s b hb (λ l. rw (lt-ltb b mostBlocks hb) at (t .used b hb l)) (λ l. rw (lt-ltb b mostBlocks hb) at (t .unused b hb l))),
       (
         all-intro room (requestTest w) (λ i l.
-            slot-i noRequest (waitingOf w) (requestAt w) (requestIs w) (okRequest (cardsOf w) (blocksOf w)) i (s .request i l) (t .requests)),
+            slot-i unusedRequest (waitingOf w) (requestAt w) (requestIs w) (okRequest (cardsOf w) (blocksOf w)) i (s .request i l) (t .requests)),
         (
           all-intro room (messageTest w) (λ i l.
-              slot-i noMessage (pooledOf w) (messageAt w) (messageIs w) (okMessage (cardsOf w) (blocksOf w) (lastOf w)) i
+              slot-i unusedMessage (pooledOf w) (messageAt w) (messageIs w) (okMessage (cardsOf w) (blocksOf w) (lastOf w)) i
               (s .message i l) (t .messages)),
           tt,
         ),

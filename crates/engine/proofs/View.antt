@@ -10,7 +10,7 @@ use lib.Dec.{ltb}
 use borrow.Author.Tests.{lt-ltb, ltb-true, ltb-false}
 use Rattle.rules.specs.Lists.{same}
 use Rattle.rules.specs.Numbers.{mostCards, mostBlocks, room}
-use Rattle.rules.specs.Chassis.{Block, Chassis, cellOf, idle, freshBlock}
+use Rattle.rules.specs.Chassis.{Block, Chassis, cellOf, idle, freshBlock, unusedRequest, unusedMessage}
 use Rattle.rules.specs.Formed.{wellFormed}
 use Rattle.rules.specs.declared.kinds.Cell.{Cell}
 use Rattle.rules.specs.declared.kinds.Request.{Request}
@@ -30,8 +30,6 @@ use Rattle.engine.specs.Words.{
   lastOf,
   byte,
   half,
-  noRequest,
-  noMessage,
   cellAt,
   requestAt,
   messageAt,
@@ -87,13 +85,13 @@ pub pooled-is : (w : List ℕ) → length (view w .pool) ≡ pooledOf w
 unfolding view
 pooled-is w = length-first (pooledOf w) (messageAt w)
 
-pub view-request : (w : List ℕ) (i : ℕ) → i < waitingOf w → getD (view w .line) i noRequest ≡ requestAt w i
+pub view-request : (w : List ℕ) (i : ℕ) → i < waitingOf w → getD (view w .line) i unusedRequest ≡ requestAt w i
 unfolding view
-view-request w i h = first-at noRequest (waitingOf w) (requestAt w) i h
+view-request w i h = first-at unusedRequest (waitingOf w) (requestAt w) i h
 
-pub view-message : (w : List ℕ) (i : ℕ) → i < pooledOf w → getD (view w .pool) i noMessage ≡ messageAt w i
+pub view-message : (w : List ℕ) (i : ℕ) → i < pooledOf w → getD (view w .pool) i unusedMessage ≡ messageAt w i
 unfolding view
-view-message w i h = first-at noMessage (pooledOf w) (messageAt w) i h
+view-message w i h = first-at unusedMessage (pooledOf w) (messageAt w) i h
 
 -- the header of a chassis's words
 module _ (c : Chassis) (w : List ℕ) (e : w ≡ words c) where
@@ -144,8 +142,8 @@ pub record Fits (c : Chassis) : Type 0 where
   pub pool-room : length (c .pool) ≤ room
   pub blocks : (b : ℕ) → b < mostBlocks → BlockFits (c .block b)
   pub beyond : (b : ℕ) → mostBlocks ≤ b → c .block b ≡ freshBlock
-  pub requests : (i : ℕ) → i < length (c .line) → RequestFits (getD (c .line) i noRequest)
-  pub messages : (i : ℕ) → i < length (c .pool) → MessageFits (getD (c .pool) i noMessage)
+  pub requests : (i : ℕ) → i < length (c .line) → RequestFits (getD (c .line) i unusedRequest)
+  pub messages : (i : ℕ) → i < length (c .pool) → MessageFits (getD (c .pool) i unusedMessage)
 
 -- a list is the first of its elements
 first-list : {A : Type 0} (d : A) (l : List A) (f : ℕ → A) → ((i : ℕ) → i < length l → f i ≡ getD l i d) → first (length l) f ≡ l
@@ -186,10 +184,10 @@ module _ (c : Chassis) where
       (λ e. rw e (sym (f .beyond k (ltb-false k mostCards e))))) in
       λ i. record { memory = m i; owner = o i; sharers = s i; cell = x i }
 
-  request-again : (i : ℕ) → i < room → RequestFits (getD (c .line) i noRequest) → requestAt w i ≡ getD (c .line) i noRequest
+  request-again : (i : ℕ) → i < room → RequestFits (getD (c .line) i unusedRequest) → requestAt w i ≡ getD (c .line) i unusedRequest
   request-again i h f =
       let p = lineAt + placeWords * i in
-      let at : (r : ℕ) → r < 5 → getD w (p + r) 0 ≡ getD (requestRow (getD (c .line) i noRequest)) r 0 = λ r. get-request (plain c) i r h in
+      let at : (r : ℕ) → r < 5 → getD w (p + r) 0 ≡ getD (requestRow (getD (c .line) i unusedRequest)) r 0 = λ r. get-request (plain c) i r h in
       rw (
         first-word w p (at 0 (omega arith)),
         at 1 (omega arith),
@@ -203,10 +201,10 @@ module _ (c : Chassis) where
         mod-eq-of-lt (f .retry),
       )
 
-  message-again : (i : ℕ) → i < room → MessageFits (getD (c .pool) i noMessage) → messageAt w i ≡ getD (c .pool) i noMessage
+  message-again : (i : ℕ) → i < room → MessageFits (getD (c .pool) i unusedMessage) → messageAt w i ≡ getD (c .pool) i unusedMessage
   message-again i h f =
       let p = poolAt + placeWords * i in
-      let at : (r : ℕ) → r < 5 → getD w (p + r) 0 ≡ getD (messageRow (getD (c .pool) i noMessage)) r 0 = λ r. get-message (plain c) i r h in
+      let at : (r : ℕ) → r < 5 → getD w (p + r) 0 ≡ getD (messageRow (getD (c .pool) i unusedMessage)) r 0 = λ r. get-message (plain c) i r h in
       rw (
         first-word w p (at 0 (omega arith)),
         at 1 (omega arith),
@@ -226,6 +224,6 @@ view-words c f =
     let B : _≡_ {A = ℕ → Block} (λ b. cond (ltb b mostBlocks) (blockOf w b) freshBlock) (c .block) = fun-ext (λ b. test (ltb b mostBlocks)
     (λ e. rw e (block-again c b (ltb-true b mostBlocks e) (f .blocks b (ltb-true b mostBlocks e))))
     (λ e. rw e (sym (f .beyond b (ltb-false b mostBlocks e))))) in
-    let l = first-list noRequest (c .line) (requestAt w) (λ i h. request-again c i (let r = f .line-room in omega arith) (f .requests i h)) in
-    let p = first-list noMessage (c .pool) (messageAt w) (λ i h. message-again c i (let r = f .pool-room in omega arith) (f .messages i h)) in
+    let l = first-list unusedRequest (c .line) (requestAt w) (λ i h. request-again c i (let r = f .line-room in omega arith) (f .requests i h)) in
+    let p = first-list unusedMessage (c .pool) (messageAt w) (λ i h. message-again c i (let r = f .pool-room in omega arith) (f .messages i h)) in
     λ i. record { cards = c .cards; blocks = c .blocks; block = B i; line = l i; pool = p i; last = c .last }

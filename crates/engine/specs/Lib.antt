@@ -2,6 +2,7 @@
 pub mod Layout
 pub mod Words
 pub mod Promise
+pub mod Calls
 pub mod Running
 pub mod Parts
 pub mod Found

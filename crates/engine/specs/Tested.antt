@@ -8,15 +8,13 @@ use lib.Dec.{eqb, ltb, leb}
 use Rattle.rules.specs.Tests.{each, all}
 use Rattle.rules.specs.Masks.{inside}
 use Rattle.rules.specs.Numbers.{mostCards, mostBlocks, room}
-use Rattle.rules.specs.Chassis.{Block, idle, freshBlock}
+use Rattle.rules.specs.Chassis.{Block, idle, freshBlock, unusedRequest, unusedMessage}
 use Rattle.rules.specs.Formed.{sizes, homeOrCard, okCell, okRequest, okMessage}
 use Rattle.rules.specs.declared.kinds.Cell.{Cell}
 use Rattle.rules.specs.declared.kinds.Request.{Request}
 use Rattle.rules.specs.declared.kinds.Message.{Message}
 use Rattle.engine.specs.Layout.{placeWords, blockAt, cellPlace, lineAt, poolAt}
 use Rattle.engine.specs.Words.{
-  noRequest,
-  noMessage,
   cardsOf,
   blocksOf,
   waitingOf,
@@ -74,12 +72,12 @@ blockTest w b = cond (ltb b (blocksOf w))
 unfoldable pub requestTest : List ℕ → ℕ → Bool
 requestTest w i = cond (ltb i (waitingOf w))
     (requestIs w i (requestAt w i) && okRequest (cardsOf w) (blocksOf w) (requestAt w i))
-    (requestIs w i noRequest)
+    (requestIs w i unusedRequest)
 
 unfoldable pub messageTest : List ℕ → ℕ → Bool
 messageTest w i = cond (ltb i (pooledOf w))
     (messageIs w i (messageAt w i) && okMessage (cardsOf w) (blocksOf w) (lastOf w) (messageAt w i))
-    (messageIs w i noMessage)
+    (messageIs w i unusedMessage)
 
 -- all of them
 abbrev pub tests : List ℕ → List Bool

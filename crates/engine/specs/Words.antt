@@ -6,7 +6,7 @@ use lib.ListN.{length, getD}
 use lib.Dec.{ltb}
 use Rattle.rules.specs.Lists.{same}
 use Rattle.rules.specs.Numbers.{mostCards, mostBlocks, room}
-use Rattle.rules.specs.Chassis.{Block, Chassis, idle, freshBlock}
+use Rattle.rules.specs.Chassis.{Block, Chassis, idle, freshBlock, unusedRequest, unusedMessage}
 use Rattle.rules.specs.Formed.{wellFormed}
 use Rattle.rules.specs.declared.kinds.Cell.{Cell}
 use Rattle.rules.specs.declared.kinds.Request.{Request}
@@ -43,19 +43,12 @@ requestRow r = r .card ∷ r .block ∷ r .kind ∷ r .mask ∷ r .retry .0 ∷ 
 abbrev pub messageRow : Message → List ℕ
 messageRow m = m .sender ∷ m .receiver ∷ m .block ∷ m .value ∷ m .number .0 ∷ []
 
--- "an unused line or pool place is all 0"
-abbrev pub noRequest : Request
-noRequest = record { card = 0; block = 0; kind = 0; mask = 0; retry = record { 0 = 0 } }
-
-abbrev pub noMessage : Message
-noMessage = record { sender = 0; receiver = 0; block = 0; value = 0; number = record { 0 = 0 } }
-
 unfoldable pub words : Chassis → List ℕ
 words c =
     (c .cards ∷ c .blocks ∷ length (c .line) ∷ length (c .pool) ∷ c .last .0 ∷ [])
     ++ (rows mostBlocks (λ b. blockRow (c .block b))
-    ++ (rows room (λ i. requestRow (getD (c .line) i noRequest))
-    ++ rows room (λ i. messageRow (getD (c .pool) i noMessage))))
+    ++ (rows room (λ i. requestRow (getD (c .line) i unusedRequest))
+    ++ rows room (λ i. messageRow (getD (c .pool) i unusedMessage))))
 
 -- Reading one back
 

@@ -4,17 +4,19 @@ use mathlib.Core.Path.{_≡_, refl, sym, ap, _∙_}
 use mathlib.Core.List.{List}
 use mathlib.Core.Logic.{_≢_}
 use borrow.Author.Tests.{ne-eqb}
+use Rattle.rules.specs.declared.kinds.Event.the-variants.{Load, Store, Drop, Ask, Order, Deliver, Copy, Rejoin}
 use Rattle.journal.specs.Records.{openingTag, loadTag, storeTag, askTag, dropTag, orderTag, deliverTag, copyTag, rejoinTag, bytesOf}
 use Rattle.journal.specs.Reading.{damageNo, placeAfter, readAt}
 use Rattle.journal.specs.Writing.{writtenNo, placeWritten, Puts}
 use Rattle.journal.specs.declared.kinds.Damage.the-variants.{UnknownTag}
 use Rattle.journal.specs.declared.kinds.Found.{Found}
 use Rattle.journal.specs.declared.kinds.Record.{Record}
+use Rattle.journal.specs.declared.kinds.Record.the-variants.{Opening, Happens}
 use Rattle.journal.specs.declared.kinds.Written.{Written}
 use Rattle.engine.specs.Running.{Runs}
 use Rattle.engine.specs.declared.run.Ran.{Ran}
 use Rattle.firmware.specs.Halves.{half}
-use Rattle.firmware.specs.Fields.{fields, named}
+use Rattle.firmware.specs.Fields.{fields, named, Fields-name}
 use Rattle.firmware.specs.Journals.{foundNumber, fieldsAfter, Reads, Writes, reachedIn, ranNumber, standingAfter, RunSays}
 use Rattle.firmware.specs.declared.fields.Named.{Named}
 use Rattle.firmware.specs.declared.fields.Named.the-variants.{One, Unknown}
@@ -22,6 +24,19 @@ use Rattle.firmware.specs.declared.fields.Named.the-variants.{One, Unkno
 -- the fields of a record, once it is known which one
 pub fields-for : (l : List ℕ) (x y : Record) → x ≡ y → l ≡ fields y → l ≡ fields x
 fields-for l x y e h = h ∙ sym (ap fields e)
+
+-- and the record, once its numbers are known
+pub fields-name : Fields-name
+unfolding named
+fields-name (Opening cards blocks) = refl
+fields-name (Happens (Load k b)) = refl
+fields-name (Happens (Store k b v)) = refl
+fields-name (Happens (Drop k b)) = refl
+fields-name (Happens (Ask k b kind mask)) = refl
+fields-name (Happens Order) = refl
+fields-name (Happens (Deliver i)) = refl
+fields-name (Happens (Copy i)) = refl
+fields-name (Happens (Rejoin k)) = refl
 
 -- no record has a tag that is none of the nine
 pub no-record : (t card block kind mask value position : ℕ) → t ≢ openingTag → t ≢ loadTag → t ≢ storeTag → t ≢ askTag → t ≢ dropTag → t ≢ orderTag

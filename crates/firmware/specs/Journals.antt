@@ -2,7 +2,7 @@
 use Prim.Native.Nat.{ℕ, _*_}
 use mathlib.Core.List.{List, [], _∷_}
 use mathlib.Core.Path.{_≡_}
-use lib.ListN.{getD, set}
+use lib.ListN.{getD}
 use Rattle.rules.specs.Answers.{refusalNo}
 use Rattle.journal.specs.Records.{bytesOf}
 use Rattle.journal.specs.Reading.{damageNo, placeAfter, readAt}
@@ -57,13 +57,14 @@ reachedIn l = record { number = getD l 0 0; place = getD l 1 0 }
 -- 1 where there may be more, 0 where the run is over, or the refusal
 abbrev pub ranNumber : Ran → ℕ
 ranNumber (More q n) = 1
-ranNumber (Over n) = 0
+ranNumber (Over q n) = 0
 ranNumber (Refused x) = refusalNo x * half
 
--- the number and the place of the next record, and how many bytes of text were written; a refusal keeps all three
+-- the number and the place of the next record, or of the one that ended the run, and how many bytes of text were written; a refusal
+-- keeps all three
 abbrev pub standingAfter : List ℕ → Ran → List ℕ
 standingAfter l (More q n) = q .number ∷ q .place ∷ n ∷ []
-standingAfter l (Over n) = set l 2 n
+standingAfter l (Over q n) = q .number ∷ q .place ∷ n ∷ []
 standingAfter l (Refused x) = l
 
 -- words w, standing l and text t before, w′, l′ and t′ after a piece of a run over a journal that answers n

@@ -93,8 +93,8 @@ pub extern "C" fn coherence_run(
             *standing = [next.number as u64, next.place as u64, count as u64];
             1
         }
-        Ran::Over(count) => {
-            standing[2] = count as u64;
+        Ran::Over(last, count) => {
+            *standing = [last.number as u64, last.place as u64, count as u64];
             0
         }
         Ran::Refused(refusal) => refused(refusal_no(refusal)),

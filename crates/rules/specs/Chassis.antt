@@ -43,6 +43,13 @@ idle = record { state = I; value = 0; awaits = record { 0 = 0 } }
 abbrev pub freshBlock : Block
 freshBlock = record { memory = 0; owner = home; sharers = 0; cell = λ k. idle }
 
+-- "an unused line or pool place is all 0"
+abbrev pub unusedRequest : Request
+unusedRequest = record { card = 0; block = 0; kind = 0; mask = 0; retry = record { 0 = 0 } }
+
+abbrev pub unusedMessage : Message
+unusedMessage = record { sender = 0; receiver = 0; block = 0; value = 0; number = record { 0 = 0 } }
+
 -- a chassis of so many cards and blocks, just started
 abbrev pub fresh : ℕ → ℕ → Chassis
 fresh cards blocks = record {

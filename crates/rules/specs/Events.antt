@@ -20,6 +20,7 @@ use Rattle.rules.specs.Chassis.{
   changed,
   cellChanged,
   poolChanged,
+  unusedMessage,
 }
 use Rattle.rules.specs.Answers.{Result, result, Reason, _if_, refusedBy}
 use Rattle.rules.specs.Order.{order, orderReasons}
@@ -110,9 +111,9 @@ ask c k b kind mask = changed c b (withCell (c .block b) k (goes (asked kind (st
 
 -- Deliver and Copy
 
--- the message at a position; none there is all 0, and is refused before it is looked at
+-- the message at a position; an unused one is refused before it is looked at
 abbrev pub messageAt : Chassis → ℕ → Message
-messageAt c i = getD (c .pool) i (record { sender = 0; receiver = 0; block = 0; value = 0; number = record { 0 = 0 } })
+messageAt c i = getD (c .pool) i unusedMessage
 
 -- "the receiver is in 6, 7 or 8 for that block and awaits that number"
 unfoldable pub live : Block → Message → Bool
@@ -156,7 +157,7 @@ rejoin c k = record {
 
 -- Every event
 
--- "A block holds one 32-bit value": the numbers of an event fit their kinds
+-- "A block holds one 32-bit value": what is stored fits; of an event's other numbers nothing is asked
 abbrev pub EventFits : Event → Type 0
 EventFits (Load k b) = Unit {0}
 EventFits (Store k b v) = v < 2 ^ 32

@@ -5,7 +5,7 @@ use mathlib.Core.List.{List, [], _∷_, _++_}
 use lib.ListN.{length, getD, replicate}
 use lib.Dec.{eqb}
 use Rattle.rules.specs.Numbers.{gets, getx, putx, I, S, IM-AD, IM-D}
-use Rattle.rules.specs.Chassis.{Chassis, stateOf}
+use Rattle.rules.specs.Chassis.{Chassis, stateOf, unusedRequest}
 use Rattle.rules.specs.Answers.{refusalOf, valueOf}
 use Rattle.rules.specs.Events.{step, start, messageAt, live}
 use Rattle.rules.specs.declared.kinds.Request.{Request}
@@ -42,7 +42,7 @@ memoryIs v = shows (λ c. eqb (c .block 0 .memory) v)
 
 -- the request at the head
 abbrev pub head : Chassis → Request
-head c = getD (c .line) 0 (record { card = 0; block = 0; kind = 0; mask = 0; retry = record { 0 = 0 } })
+head c = getD (c .line) 0 unusedRequest
 
 -- the head is from card k; it has this retry and this mask
 abbrev pub headIsFrom : ℕ → Line

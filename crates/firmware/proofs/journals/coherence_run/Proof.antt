@@ -7,11 +7,11 @@ use Rattle.firmware.proofs.Laws.{run-says}
 use Rattle.firmware.proofs.journals.coherence_run.Statement.{statement}
 use Rattle.firmware.proofs.journals.coherence_run.Tie as tie
 
-element-copy-out-t12 : tie.Need-element-copy-out-t12
-element-copy-out-t12 c = search needs
+element-copy-out-t13 : tie.Need-element-copy-out-t13
+element-copy-out-t13 c = search needs
 
-element-copy-out-t16 : tie.Need-element-copy-out-t16
-element-copy-out-t16 c = search needs
+element-copy-out-t17 : tie.Need-element-copy-out-t17
+element-copy-out-t17 c = search needs
 
 run-requires : tie.Need-run-requires
 run-requires c κs = search needs
@@ -19,11 +19,8 @@ run-requires c κs = search needs
 enum-known-next : tie.Need-enum-known-next
 enum-known-next c = search needs
 
-enum-known-count : tie.Need-enum-known-count
-enum-known-count c = search needs
-
-element-write-standing : tie.Need-element-write-standing
-element-write-standing c = search needs
+enum-known-last : tie.Need-enum-known-last
+enum-known-last c = search needs
 
 enum-known-refusal : tie.Need-enum-known-refusal
 enum-known-refusal c = search needs
@@ -44,7 +41,7 @@ same-length-2 : tie.Need-same-length-2
 same-length-2 c = search needs
 
 returns-2 : tie.Need-returns-2
-returns-2 c = run-says _ _ _ _ _ _ _ _ _ _ (c .before .count .given .1) (c .before .before .before .before .before .run .ensures) refl refl
+returns-2 c = run-says _ _ _ _ _ _ _ _ _ _ (c .before .before .last .given .1) (c .before .before .before .before .before .before .run .ensures) refl refl
 
 same-length-3 : tie.Need-same-length-3
 same-length-3 c = search needs
@@ -58,12 +55,11 @@ pub coherence-run-spec : {M : Type 1} → statement M
 coherence-run-spec =
     tie.close
     (tie.spec
-    element-copy-out-t12
-    element-copy-out-t16
+    element-copy-out-t13
+    element-copy-out-t17
     run-requires
     enum-known-next
-    enum-known-count
-    element-write-standing
+    enum-known-last
     enum-known-refusal
     refusal-no-requires
     refused-requires
