@@ -20,6 +20,12 @@ impl Arguments {
         }
     }
 
+    /// Whether the usage is asked for: by the command, or by an option anywhere.
+    pub fn asks_for_help(&self) -> bool {
+        let is_option = |word: &String| word == "--help" || word == "-h";
+        self.words.first().is_some_and(|word| word == "help") || self.words.iter().any(is_option)
+    }
+
     /// Takes the flag if it is there.
     pub fn take_flag(&mut self, flag: &str) -> bool {
         let found = self.words.iter().position(|word| word == flag);
@@ -31,9 +37,14 @@ impl Arguments {
         let Some(word) = self.take_option(option, "a number")? else {
             return Ok(None);
         };
+        let is_number = !word.is_empty() && word.bytes().all(|digit| digit.is_ascii_digit());
         match word.parse() {
             Ok(number) => Ok(Some(number)),
-            Err(_) => Err(format!("{option} needs a number, not {word}")),
+            Err(_) if is_number => Err(format!(
+                "{option} needs a number from 0 to {}, not {word}",
+                u64::MAX
+            )),
+            Err(_) => Err(format!("{option} needs a number, not {word:?}")),
         }
     }
 
@@ -67,9 +78,15 @@ impl Arguments {
         self.take_word(what)
     }
 
-    /// Takes the next word, which is needed.
+    /// Whether every word is taken.
+    pub fn is_over(&self) -> bool {
+        self.words.is_empty()
+    }
+
+    /// Takes the next word, which is needed and may not be empty.
     pub fn take_word(&mut self, what: &str) -> Result<String, String> {
         match self.words.first() {
+            Some(word) if word.is_empty() => Err(format!("{what} needs a name, not {word:?}")),
             Some(word) if word.starts_with('-') => Err(format!("unknown option {word}")),
             Some(_) => Ok(self.words.remove(0)),
             None => Err(format!("{what} is missing")),

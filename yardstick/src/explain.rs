@@ -1,13 +1,14 @@
-//! A journal's run explained: after each record its answer, and what changed.
+//! A journal's run explained: after each record its answer, why it has that
+//! answer, and what changed.
 
 use std::fmt::{self, Write};
 
-use crate::events::Event;
 use crate::journal::Record;
+use crate::reasons::reason;
 use crate::replay::{counted, Line, JOURNAL_LIMIT};
 use crate::run::{Run, Seen};
 use crate::show::Many;
-use crate::told::{told, Told};
+use crate::told::{accepted, text, told, Told};
 
 /// What an accepted Start makes.
 const FRESH: &str = "cells I (0), values 0, memory 0, owners home (255), no sharers, line and \
@@ -54,31 +55,37 @@ fn write_run(out: &mut String, journal: &[u8], look: Look) -> fmt::Result {
     write_end(out, journal, last)
 }
 
-/// What a record changed, in words.
+/// What a record changed, in words, and the stores that it struck.
 fn changed(seen: &Seen) -> Vec<Told> {
-    match (seen.record, seen.line.answer) {
+    let mut changed = match (seen.record, seen.line.answer) {
         (Some(Record::Event(event)), answer) => told(seen.before, event, answer, &seen.changes()),
         (Some(Record::Opening { .. }), Ok(_)) => vec![Told {
             part: "all",
             how: FRESH.to_string(),
         }],
         _ => Vec::new(),
-    }
+    };
+    changed.extend(seen.struck.iter().map(|struck| Told {
+        part: "struck",
+        how: struck.to_string(),
+    }));
+    changed
 }
 
-/// Writes a record with its answer and what it changed.
+/// Writes a record with its answer, the reason and what it changed.
 fn write_seen(out: &mut String, seen: &Seen, look: Look) -> fmt::Result {
-    let Seen { record, line, .. } = *seen;
-    let words = record.map_or_else(|| "no record".to_string(), |record| record.to_string());
-    let head = format!("{} {words}", line.number);
-    let place = format!("# at byte {}", line.place);
+    let head = format!("{} {}", seen.line.number, text(seen));
+    let place = format!("# at byte {}", seen.line.place);
     writeln!(
         out,
         "{} {}",
         look.paint(BOLD, format!("{head:<46}")),
         look.paint(DIM, place)
     )?;
-    write_answer(out, record, &line, look)?;
+    write_answer(out, seen, look)?;
+    if let Some(why) = reason(seen) {
+        writeln!(out, "  why    {why}")?;
+    }
     let changed = changed(seen);
     for change in &changed {
         writeln!(out, "  {:<6} {}", change.part, change.how)?;
@@ -90,30 +97,16 @@ fn write_seen(out: &mut String, seen: &Seen, look: Look) -> fmt::Result {
 }
 
 /// Writes the answer in numbers, as a replay has them, and in words.
-fn write_answer(out: &mut String, record: Option<Record>, line: &Line, look: Look) -> fmt::Result {
-    let (refusal, value) = line.numbers();
-    let words = match line.answer {
-        Ok(value) => record
+fn write_answer(out: &mut String, seen: &Seen, look: Look) -> fmt::Result {
+    let (refusal, value) = seen.line.numbers();
+    let words = match seen.line.answer {
+        Ok(value) => seen
+            .record
             .map_or("", |record| accepted(record, value))
             .to_string(),
         Err(refusal) => look.paint(RED, refusal),
     };
     writeln!(out, "  answer {refusal} {value}: {words}")
-}
-
-/// What the value of an accepted record means.
-fn accepted(record: Record, value: u32) -> &'static str {
-    match (record, value) {
-        (Record::Opening { .. }, _) => "the chassis is started",
-        (Record::Event(Event::Load { .. }), _) => "the value loaded",
-        (Record::Event(Event::Order), 1) => "outcome 1, granted",
-        (Record::Event(Event::Order), 2) => "outcome 2, too small a mask",
-        (Record::Event(Event::Order), 3) => "outcome 3, the put is taken",
-        (Record::Event(Event::Order), _) => "outcome 4, the put has lapsed",
-        (Record::Event(Event::Deliver { .. }), 1) => "outcome 1, taken",
-        (Record::Event(Event::Deliver { .. }), _) => "outcome 2, stale",
-        _ => "done",
-    }
 }
 
 /// Writes why the run ends, and how many bytes it leaves.

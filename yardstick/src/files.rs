@@ -2,7 +2,7 @@
 //! written.
 
 use std::ffi::OsString;
-use std::fs::{self, File};
+use std::fs::{self, File, Permissions};
 use std::io::{self, Read, Write};
 use std::path::{Path, PathBuf};
 use std::process;
@@ -10,50 +10,70 @@ use std::process;
 /// The name that stands for standard input or output.
 pub const STANDARD: &str = "-";
 
-/// The longest journal and the longest text that are read: the text of a
-/// journal is not four times as long, but for the comments on its first bytes.
+/// The longest journal that is read or made, and the longest text that is
+/// read: the text of a journal is not four times as long, but for the comments
+/// on its first bytes.
 pub const LONGEST_JOURNAL: usize = 16 << 20;
 pub const LONGEST_TEXT: usize = 4 * LONGEST_JOURNAL;
 
-/// Reads a whole file, or standard input.
+/// Reads a whole file, or standard input. The end has to come within so many
+/// bytes: a device may have none.
 pub fn read_whole(name: &str, longest: usize) -> io::Result<Vec<u8>> {
-    if name == STANDARD {
-        read_up_to(io::stdin().lock(), longest)
-    } else {
-        read_up_to(File::open(name)?, longest)
-    }
-}
-
-/// Reads to the end, which has to come within so many bytes: a device may
-/// have none.
-fn read_up_to(from: impl Read, longest: usize) -> io::Result<Vec<u8>> {
-    let mut bytes = Vec::new();
-    from.take(longest as u64 + 1).read_to_end(&mut bytes)?;
+    let bytes = read_first(name, longest.saturating_add(1))?;
     if bytes.len() > longest {
         return Err(io::Error::other(format!("longer than {longest} bytes")));
     }
     Ok(bytes)
 }
 
-/// Writes a file under another name beside its own, then gives it its own. A
-/// file of that name is replaced, but nothing else: neither a directory nor a
-/// device nor a link.
-pub fn write_whole(path: &Path, bytes: &[u8]) -> io::Result<()> {
-    if fs::symlink_metadata(path).is_ok_and(|found| !found.is_file()) {
-        return Err(io::Error::other(
-            "not a regular file, so it is not replaced",
-        ));
+/// Reads the first bytes of a file, or of standard input: no more than so many.
+pub fn read_first(name: &str, most: usize) -> io::Result<Vec<u8>> {
+    let mut bytes = Vec::new();
+    if name == STANDARD {
+        let stdin = io::stdin().lock();
+        stdin.take(most as u64).read_to_end(&mut bytes)?;
+    } else {
+        let file = File::open(name)?;
+        file.take(most as u64).read_to_end(&mut bytes)?;
     }
+    Ok(bytes)
+}
+
+/// Writes a file under another name beside its own, then gives it its own. A
+/// file of that name is replaced and its permissions are kept, but nothing
+/// else is: neither a directory nor a device nor a link, nor a file that may
+/// not be written.
+pub fn write_whole(path: &Path, bytes: &[u8]) -> io::Result<()> {
+    let permissions = permissions_to_keep(path)?;
     let partial = partial_name(path)?;
     let mut file = File::create_new(&partial)?;
-    let done = file
-        .write_all(bytes)
+    // The permissions come first: nobody else may read the bytes meanwhile.
+    let done = permissions
+        .map_or(Ok(()), |kept| file.set_permissions(kept))
+        .and_then(|()| file.write_all(bytes))
         .and_then(|()| fs::rename(&partial, path));
     if done.is_err() {
         // What failed is told; that a part is left behind is the lesser harm.
         let _ = fs::remove_file(&partial);
     }
     done
+}
+
+/// The permissions of the file that is replaced, if there is one, or why it
+/// is not to be replaced.
+fn permissions_to_keep(path: &Path) -> io::Result<Option<Permissions>> {
+    let Ok(found) = fs::symlink_metadata(path) else {
+        return Ok(None);
+    };
+    let no = |why| Err(io::Error::other(format!("{why}, so it is not replaced")));
+    let permissions = found.permissions();
+    if !found.is_file() {
+        no("not a regular file")
+    } else if permissions.readonly() {
+        no("read-only")
+    } else {
+        Ok(Some(permissions))
+    }
 }
 
 /// A name beside a file's own that no other process takes.

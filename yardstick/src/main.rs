@@ -5,15 +5,18 @@
 use std::env;
 use std::ffi::OsStr;
 use std::fs;
-use std::io::{self, IsTerminal, Read, Write};
+use std::io::{self, ErrorKind, IsTerminal, Write};
 use std::path::Path;
 use std::process::ExitCode;
 
 use yardstick::arguments::Arguments;
-use yardstick::compare::compare;
+use yardstick::compare::{compare, TIME_LIMIT};
 use yardstick::counts::Counts;
+use yardstick::ended::early_end;
 use yardstick::explain::{explain, Look};
-use yardstick::files::{read_whole, write_whole, LONGEST_JOURNAL, LONGEST_TEXT, STANDARD};
+use yardstick::files::{
+    read_first, read_whole, write_whole, LONGEST_JOURNAL, LONGEST_TEXT, STANDARD,
+};
 use yardstick::generate::generate;
 use yardstick::make::make;
 use yardstick::picture::{page, Picture};
@@ -23,16 +26,19 @@ use yardstick::stored;
 
 const USAGE: &str = "\
 usage:
-  yardstick replay < JOURNAL                            the output for a journal
+  yardstick replay [FILE]                               the output for a journal
   yardstick generate --seed N [--damaged] > JOURNAL     the journal of a seed
   yardstick counts [--seeds N]                          how often each case is reached
   yardstick show FILE                                   a journal in a readable form
   yardstick make FILE [-o JOURNAL]                      the journal of a readable form
-  yardstick explain FILE                                what each record of a journal changes
+  yardstick explain FILE                                what each record of a journal changes, and why
   yardstick picture FILE [-o PAGE.html]                 a journal as a page for the browser
   yardstick compare PROGRAM [--from SEED] [--count N]   another program's output with this one's
   yardstick stored DIR [--check]                        the stored journals, written or checked
-FILE may be - for standard input.";
+  yardstick help                                        this text
+FILE may be - for standard input; replay reads it if nothing is said.
+Status 0: all is well. 1: something is wrong, or the run of a journal that is
+shown, explained or pictured ends early. 2: bad use.";
 
 /// How many seeds are counted, and compared, if nothing is said.
 const DEFAULT_SEEDS: u64 = 2_000;
@@ -47,6 +53,9 @@ enum Failure {
     /// A text has a mistake. The message begins with its place, as editors
     /// understand it.
     Text(String),
+    /// Whoever reads the output has seen enough, as `head` does. There is
+    /// nothing to tell, but not all was written.
+    Closed,
 }
 
 /// The exit status of a failure.
@@ -59,6 +68,7 @@ fn main() -> ExitCode {
         Err(Failure::Usage(message)) => (format!("yardstick: {message}\n{USAGE}"), USAGE_STATUS),
         Err(Failure::Work(message)) => (format!("yardstick: {message}"), WORK_STATUS),
         Err(Failure::Text(message)) => (message, WORK_STATUS),
+        Err(Failure::Closed) => return ExitCode::from(WORK_STATUS),
     };
     // With no standard error left, the status alone has to say it.
     let _ = writeln!(io::stderr(), "{message}");
@@ -68,6 +78,9 @@ fn main() -> ExitCode {
 /// Finds the command and runs it.
 fn run() -> Result<(), Failure> {
     let mut arguments = Arguments::new(env::args_os().skip(1)).map_err(Failure::Usage)?;
+    if arguments.asks_for_help() {
+        return write_out(format!("{USAGE}\n").as_bytes());
+    }
     let command = arguments.take_word("the command").map_err(Failure::Usage)?;
     match command.as_str() {
         "replay" => run_replay(arguments),
@@ -83,13 +96,16 @@ fn run() -> Result<(), Failure> {
     }
 }
 
-fn run_replay(arguments: Arguments) -> Result<(), Failure> {
+/// Replays a journal. What becomes of it stands in the output, whose form the
+/// paper fixes: the status says nothing of it.
+fn run_replay(mut arguments: Arguments) -> Result<(), Failure> {
+    let file = if arguments.is_over() {
+        STANDARD.to_string()
+    } else {
+        arguments.take_file("FILE").map_err(Failure::Usage)?
+    };
     arguments.end().map_err(Failure::Usage)?;
-    let mut journal = Vec::new();
-    let mut counted = io::stdin().lock().take(JOURNAL_LIMIT as u64);
-    counted
-        .read_to_end(&mut journal)
-        .map_err(|error| Failure::Work(format!("cannot read the journal: {error}")))?;
+    let journal = read_first(&file, JOURNAL_LIMIT).map_err(|error| unread(&file, error))?;
     write_out(replay(&journal).as_bytes())
 }
 
@@ -118,7 +134,8 @@ fn run_show(mut arguments: Arguments) -> Result<(), Failure> {
     let file = arguments.take_file("FILE").map_err(Failure::Usage)?;
     arguments.end().map_err(Failure::Usage)?;
     let journal = read_in(&file, LONGEST_JOURNAL)?;
-    write_out(show(&journal, usize::MAX).as_bytes())
+    write_out(show(&journal, usize::MAX).as_bytes())?;
+    runs_whole(&file, &journal)
 }
 
 fn run_make(mut arguments: Arguments) -> Result<(), Failure> {
@@ -144,7 +161,8 @@ fn run_explain(mut arguments: Arguments) -> Result<(), Failure> {
     } else {
         Look::Plain
     };
-    write_out(explain(&journal, look).as_bytes())
+    write_out(explain(&journal, look).as_bytes())?;
+    runs_whole(&file, &journal)
 }
 
 fn run_picture(mut arguments: Arguments) -> Result<(), Failure> {
@@ -156,6 +174,16 @@ fn run_picture(mut arguments: Arguments) -> Result<(), Failure> {
     match out.filter(|name| name != STANDARD) {
         Some(name) => write_beside(&file, &name, page.as_bytes()),
         None => write_out(page.as_bytes()),
+    }?;
+    runs_whole(&file, &journal)
+}
+
+/// Says where and why the run of a journal ends early, if it does. The
+/// journal is written in the form asked for all the same.
+fn runs_whole(file: &str, journal: &[u8]) -> Result<(), Failure> {
+    match early_end(journal) {
+        Some(end) => Err(Failure::Work(format!("{}: {end}", name_of(file)))),
+        None => Ok(()),
     }
 }
 
@@ -174,7 +202,7 @@ fn run_compare(mut arguments: Arguments) -> Result<(), Failure> {
     let Some(end) = first.checked_add(count.unwrap_or(DEFAULT_COUNT)) else {
         return Err(Failure::Usage("the seeds go past 2^64 - 1".to_string()));
     };
-    compare(&program, first..end, &mut io::stdout()).map_err(Failure::Work)
+    compare(&program, first..end, TIME_LIMIT, &mut io::stdout()).map_err(Failure::Work)
 }
 
 fn run_stored(mut arguments: Arguments) -> Result<(), Failure> {
@@ -201,7 +229,12 @@ fn name_of(file: &str) -> &str {
 
 /// Reads a whole file, or standard input.
 fn read_in(file: &str, longest: usize) -> Result<Vec<u8>, Failure> {
-    read_whole(file, longest).map_err(|error| Failure::Work(format!("{}: {error}", name_of(file))))
+    read_whole(file, longest).map_err(|error| unread(file, error))
+}
+
+/// Why a file, or standard input, cannot be read.
+fn unread(file: &str, error: io::Error) -> Failure {
+    Failure::Work(format!("{}: {error}", name_of(file)))
 }
 
 /// Writes a file, which may not be the one that was read.
@@ -222,5 +255,8 @@ fn write_out(bytes: &[u8]) -> Result<(), Failure> {
     let mut out = io::stdout().lock();
     out.write_all(bytes)
         .and_then(|()| out.flush())
-        .map_err(|error| Failure::Work(format!("cannot write: {error}")))
+        .map_err(|error| match error.kind() {
+            ErrorKind::BrokenPipe => Failure::Closed,
+            _ => Failure::Work(format!("cannot write: {error}")),
+        })
 }

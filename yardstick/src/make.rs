@@ -3,6 +3,7 @@
 //! decimal, or hex after `0x`; a mask is 8 binary digits, or hex after `0x`;
 //! each of the bytes after the word `bytes` is two hex digits.
 
+use crate::files::LONGEST_JOURNAL;
 use crate::journal::append;
 use crate::script::{ask, copy, deliver, drop_copy, load, order, rejoin, start, store};
 use crate::table::{GETS, GETX, PUTX};
@@ -17,11 +18,19 @@ const A_KIND: &str = "GETS, GETX, PUTX or `kind` is expected";
 const A_MASK: &str = "a mask of 8 binary digits, or of 0x and hex digits, is expected";
 const TWO_DIGITS: &str = "a byte of two hex digits is expected";
 
-/// The journal of a text, or the text's first mistake.
+/// The journal of a text, or the text's first mistake. A journal that the
+/// other commands would not read is one, at the line that makes it too long.
 pub fn make(text: &[u8]) -> Result<Vec<u8>, Mistake> {
     let mut journal = Vec::new();
     for (number, line) in (1..).zip(text_of(text)?.lines()) {
         add_line(&mut journal, Words::of_line(number, line))?;
+        if journal.len() > LONGEST_JOURNAL {
+            return Err(Mistake {
+                line: number,
+                column: 1,
+                what: format!("the journal is longer than {LONGEST_JOURNAL} bytes from here on"),
+            });
+        }
     }
     Ok(journal)
 }
@@ -135,7 +144,6 @@ fn number(word: &str) -> Option<u64> {
 
 /// The byte that two hex digits say.
 fn two_digits(word: &str) -> Option<u8> {
-    let digits = word.strip_prefix("0x").unwrap_or(word);
-    let is_whole = digits.len() == 2 && digits.bytes().all(|digit| digit.is_ascii_hexdigit());
-    is_whole.then(|| u8::from_str_radix(digits, 16).ok())?
+    let is_whole = word.len() == 2 && word.bytes().all(|digit| digit.is_ascii_hexdigit());
+    is_whole.then(|| u8::from_str_radix(word, 16).ok())?
 }

@@ -2,7 +2,7 @@
 
 use std::fmt;
 
-use crate::chassis::{card_bit, Message, Request, HOME, MAX_CARDS};
+use crate::chassis::{card_bit, Cell, Message, OrderNumber, Request, HOME, MAX_CARDS};
 use crate::table::{GETS, GETX, NAMES, PUTX};
 
 /// A state by its name. A code outside the table has none.
@@ -55,6 +55,30 @@ impl fmt::Display for Cards {
             [] => write!(out, "none"),
             [card] => write!(out, "card {card}"),
             [cards @ .., last] => write!(out, "cards {} and {last}", cards.join(", ")),
+        }
+    }
+}
+
+/// A card with the state that it is in.
+pub struct Standing(pub u8, pub u8);
+
+impl fmt::Display for Standing {
+    fn fmt(&self, out: &mut fmt::Formatter<'_>) -> fmt::Result {
+        let Standing(card, state) = *self;
+        write!(out, "{} is in {} ({state})", Holder(card), State(state))
+    }
+}
+
+/// A card with the state that it is in and the order number that it awaits.
+pub struct Awaiting<'a>(pub u8, pub &'a Cell);
+
+impl fmt::Display for Awaiting<'_> {
+    fn fmt(&self, out: &mut fmt::Formatter<'_>) -> fmt::Result {
+        let Awaiting(card, cell) = self;
+        let standing = Standing(*card, cell.state);
+        match cell.awaited {
+            OrderNumber(0) => write!(out, "{standing} and awaits nothing"),
+            OrderNumber(number) => write!(out, "{standing} and awaits number {number}"),
         }
     }
 }

@@ -8,6 +8,7 @@ use crate::chassis::Chassis;
 use crate::events::Event;
 use crate::journal::{read_record, Record};
 use crate::replay::{counted, Line, Replay};
+use crate::stores::{Struck, Unsettled};
 
 /// The run of a journal.
 pub struct Run<'a> {
@@ -17,6 +18,9 @@ pub struct Run<'a> {
     /// one of 0 cards and 0 blocks.
     before: Chassis,
     after: Chassis,
+    unsettled: Unsettled,
+    /// What the record strikes.
+    struck: Vec<Struck>,
 }
 
 /// A record with its answer and the states that it stands between.
@@ -29,6 +33,8 @@ pub struct Seen<'a> {
     pub rest: &'a [u8],
     pub before: &'a Chassis,
     pub after: &'a Chassis,
+    /// The stores that the record strikes, by block.
+    pub struck: &'a [Struck],
 }
 
 impl<'a> Run<'a> {
@@ -39,6 +45,8 @@ impl<'a> Run<'a> {
             replay: Replay::new(journal),
             before: Chassis::unused(),
             after: Chassis::unused(),
+            unsettled: Unsettled::default(),
+            struck: Vec::new(),
         }
     }
 
@@ -55,12 +63,20 @@ impl<'a> Run<'a> {
         }
         // What cannot be read has its refusal in the line.
         let read = read_record(self.journal, line.place).unwrap_or(None);
+        let record = read.map(|(record, _)| record);
+        self.struck = match (record, line.answer) {
+            (Some(Record::Event(event)), Ok(value)) => {
+                self.unsettled.accept(&self.before, event, value)
+            }
+            _ => Vec::new(),
+        };
         Some(Seen {
             line,
-            record: read.map(|(record, _)| record),
+            record,
             rest: self.journal.get(line.place..).unwrap_or(&[]),
             before: &self.before,
             after: &self.after,
+            struck: &self.struck,
         })
     }
 }

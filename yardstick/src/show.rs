@@ -9,6 +9,7 @@ use crate::journal::{Reader, Record};
 use crate::names::Kind;
 use crate::refusal::Refusal;
 use crate::replay::{counted, Line, Replay, JOURNAL_LIMIT};
+use crate::told::accepted;
 
 /// How many bytes that are no record stand on a line.
 const BYTES_A_LINE: usize = 16;
@@ -60,10 +61,16 @@ fn write_record(
     let text = record.to_string();
     write!(out, "{text:<44} # {number} at byte {place}: ")?;
     match line.map(|line| line.answer) {
-        Some(Ok(value)) => writeln!(out, "value {value}"),
+        Some(Ok(value)) if is_load(record) => writeln!(out, "value {value}"),
+        Some(Ok(value)) => writeln!(out, "{}", accepted(record, value)),
         Some(Err(refusal)) => writeln!(out, "{refusal}"),
         None => writeln!(out, "not run"),
     }
+}
+
+/// Whether the value of an accepted record is what was loaded.
+fn is_load(record: Record) -> bool {
+    matches!(record, Record::Event(Event::Load { .. }))
 }
 
 /// Writes what there is to say at the journal's end.

@@ -1,10 +1,49 @@
-//! What an event changed, in words: names beside numbers.
+//! What a record is, what its answer means and what it changed, in words:
+//! names beside numbers.
 
 use crate::changes::Change;
-use crate::chassis::{Chassis, Message, OrderNumber, Request};
+use crate::chassis::{Chassis, Message, Request};
 use crate::events::{Delivered, Event};
-use crate::names::{Asked, Cards, Holder, State};
+use crate::journal::Record;
+use crate::names::{Asked, Awaiting, Cards, Holder, State};
 use crate::refusal::Refusal;
+use crate::run::Seen;
+
+/// How many bytes that are no record are written out.
+const BYTES_SHOWN: usize = 16;
+
+/// The record, or the bytes that are none.
+pub fn text(seen: &Seen) -> String {
+    if let Some(record) = seen.record {
+        return record.to_string();
+    }
+    if seen.rest.is_empty() {
+        return "no bytes".to_string();
+    }
+    let shown = seen.rest.iter().take(BYTES_SHOWN);
+    let bytes: Vec<String> = shown.map(|byte| format!("{byte:02x}")).collect();
+    let more = if seen.rest.len() > BYTES_SHOWN {
+        " ..."
+    } else {
+        ""
+    };
+    format!("bytes {}{more}", bytes.join(" "))
+}
+
+/// What the value of an accepted record means.
+pub fn accepted(record: Record, value: u32) -> &'static str {
+    match (record, value) {
+        (Record::Opening { .. }, _) => "the chassis is started",
+        (Record::Event(Event::Load { .. }), _) => "the value loaded",
+        (Record::Event(Event::Order), 1) => "outcome 1, granted",
+        (Record::Event(Event::Order), 2) => "outcome 2, too small a mask",
+        (Record::Event(Event::Order), 3) => "outcome 3, the put is taken",
+        (Record::Event(Event::Order), _) => "outcome 4, the put has lapsed",
+        (Record::Event(Event::Deliver { .. }), 1) => "outcome 1, taken",
+        (Record::Event(Event::Deliver { .. }), _) => "outcome 2, stale",
+        _ => "done",
+    }
+}
 
 /// One thing that changed: the part of the chassis it is in, and how.
 pub struct Told {
@@ -124,25 +163,18 @@ fn gone(before: &Chassis, is_taken: bool, change: &Change) -> Vec<String> {
         }
         Change::Gone { place, message } => vec![
             format!("stale, gone from place {place}: {message}"),
-            receiver(before, message),
+            receiver(before, message).to_string(),
         ],
         _ => Vec::new(),
     }
 }
 
 /// What a message's receiver is in, and awaits.
-fn receiver(before: &Chassis, message: &Message) -> String {
-    let cell = before.cell(message.receiver, message.block);
-    let is_in = format!(
-        "{} is in {} ({})",
-        Holder(message.receiver),
-        State(cell.state),
-        cell.state
-    );
-    match cell.awaited {
-        OrderNumber(0) => format!("{is_in} and awaits nothing"),
-        OrderNumber(number) => format!("{is_in} and awaits number {number}"),
-    }
+fn receiver<'a>(before: &'a Chassis, message: &Message) -> Awaiting<'a> {
+    Awaiting(
+        message.receiver,
+        before.cell(message.receiver, message.block),
+    )
 }
 
 /// How a message came to the pool.

@@ -36,13 +36,17 @@ fn run(directory: &Path, words: &[&str], input: &[u8]) -> Output {
 
 /// Command lines that are not understood.
 #[rustfmt::skip]
-const BAD_USE: [&[&str]; 29] = [
+const BAD_USE: [&[&str]; 40] = [
     &[],
     &["unknown"],
-    &["replay", "more"],
+    &[""],
+    &["replay", "one", "two"],
+    &["replay", ""],
+    &["replay", "-x"],
     &["generate"],
     &["generate", "--seed"],
     &["generate", "--seed", "x"],
+    &["generate", "--seed", ""],
     &["counts", "--seeds", "-1"],
     &["show"],
     &["show", "-x"],
@@ -63,6 +67,13 @@ const BAD_USE: [&[&str]; 29] = [
     &["picture", "a", "-o", "b", "-o", "c"],
     &["compare", "--count", "1"],
     &["compare", "p", "--from", "18446744073709551615", "--count", "1"],
+    &["show", ""],
+    &["make", ""],
+    &["explain", ""],
+    &["picture", ""],
+    &["compare", ""],
+    &["stored", ""],
+    &["stored", "", "--check"],
     &["stored", "--chek"],
     &["stored", "-"],
     &["-"],
@@ -79,6 +90,88 @@ fn bad_use_is_told_with_status_2() {
             "{words:?}"
         );
     }
+    assert!(names(&directory).is_empty());
+}
+
+/// What a command says first where it is not understood.
+fn complaint(words: &[&str]) -> String {
+    let output = run(Path::new("."), words, &[]);
+    assert_eq!(output.status.code(), Some(2), "{words:?}");
+    let told = String::from_utf8_lossy(&output.stderr);
+    told.lines().next().expect("a line").to_string()
+}
+
+#[test]
+fn what_is_not_understood_is_told() {
+    for (words, expected) in [
+        (
+            ["generate", "--seed", "18446744073709551616"],
+            "yardstick: --seed needs a number from 0 to 18446744073709551615, \
+             not 18446744073709551616",
+        ),
+        (
+            ["generate", "--seed", "1x"],
+            "yardstick: --seed needs a number, not \"1x\"",
+        ),
+        (
+            ["stored", "", "--check"],
+            "yardstick: DIR needs a name, not \"\"",
+        ),
+    ] {
+        assert_eq!(complaint(&words), expected);
+    }
+    let directory = directory("last_seed");
+    let last = ["generate", "--seed", "18446744073709551615"];
+    assert!(run(&directory, &last, &[]).status.success());
+}
+
+#[test]
+fn help_is_written_where_it_is_asked_for() {
+    let directory = directory("help");
+    let usage = run(&directory, &["help"], &[]).stdout;
+    let text = String::from_utf8_lossy(&usage);
+    assert!(text.starts_with("usage:\n") && text.ends_with(".\n"));
+    for command in ["replay", "make", "explain", "compare", "stored"] {
+        assert!(
+            text.contains(&format!("\n  yardstick {command} ")),
+            "{command}"
+        );
+    }
+    for words in [
+        &["--help"][..],
+        &["-h"],
+        &["help", "make"],
+        &["make", "--help"],
+        &["make", "-h"],
+        &["stored", "dir", "--help"],
+    ] {
+        let output = run(&directory, words, &[]);
+        assert!(output.status.success(), "{words:?}");
+        assert!(
+            output.stdout == usage && output.stderr.is_empty(),
+            "{words:?}"
+        );
+    }
+    assert!(names(&directory).is_empty());
+}
+
+/// Only the first 65536 bytes of a file count, as of standard input.
+#[test]
+fn a_file_is_replayed_as_standard_input_is() {
+    let directory = directory("replayed");
+    let mut journal = yardstick::generate::generate(3, false);
+    journal.resize(70_000, 0x99);
+    fs::write(directory.join("journal"), &journal).expect("the journal is written");
+    let expected = yardstick::replay::replay(&journal);
+    for words in [&["replay", "journal"][..], &["replay", "-"], &["replay"]] {
+        let output = run(&directory, words, &journal);
+        assert!(
+            output.status.success() && output.stderr.is_empty(),
+            "{words:?}"
+        );
+        assert_eq!(output.stdout, expected.as_bytes(), "{words:?}");
+    }
+    fails(&directory, &["replay", "no-such-file"], "no-such-file: ");
 }
 
 #[test]
@@ -181,8 +274,27 @@ fn the_same_program_shows_no_difference() {
     assert!(words.starts_with("50 journals compared, of them 25 damaged; "));
 }
 
+/// What `yes` writes has no end.
+#[cfg(unix)]
+#[test]
+fn a_program_that_never_stops_writing_differs() {
+    let directory = directory("never_stops");
+    let words = ["compare", "yes", "--from", "4", "--count", "1"];
+    let output = run(&directory, &words, &[]);
+    assert_eq!(output.status.code(), Some(1));
+    let told = String::from_utf8_lossy(&output.stderr);
+    assert!(
+        told.contains("the program: y\\n\nyardstick:   0 0 0\\n\n"),
+        "{told}"
+    );
+    assert_eq!(names(&directory), ["difference-4.journal"]);
+}
+
 /// The commands that read a file.
 const READERS: [&str; 4] = ["show", "make", "explain", "picture"];
+
+/// Those of them that run a journal, and say where its run ends early.
+const JOURNAL_READERS: [&str; 3] = ["show", "explain", "picture"];
 
 /// Sees that a command fails with status 1, says why, and writes nothing.
 fn fails(directory: &Path, words: &[&str], why: &str) {
@@ -244,14 +356,58 @@ fn a_file_without_an_end_is_refused() {
     }
 }
 
+/// An empty text is an empty journal, and an empty journal has no opening.
 #[test]
 fn empty_files_are_read() {
     let directory = directory("empty");
     fs::write(directory.join("empty"), "").expect("it is written");
-    for command in READERS {
+    let made = run(&directory, &["make", "empty"], &[]);
+    assert!(made.status.success() && made.stdout.is_empty() && made.stderr.is_empty());
+    for command in JOURNAL_READERS {
         let output = run(&directory, &[command, "empty"], &[]);
-        assert!(output.status.success() && output.stderr.is_empty());
-        assert_eq!(output.stdout.is_empty(), command == "make");
+        let told = "yardstick: empty: byte 0: refusal 23, \
+                    the opening is missing, wrong or repeated\n";
+        assert_eq!(output.status.code(), Some(1), "{command}");
+        assert_eq!(String::from_utf8_lossy(&output.stderr), told, "{command}");
+        assert!(!output.stdout.is_empty(), "{command}");
+    }
+}
+
+/// Damage is told with status 1, and what is asked for is written all the same.
+#[test]
+fn a_run_that_ends_early_is_told_and_shown() {
+    let directory = directory("damaged");
+    let text = "start 1 card 1 block\norder\nbytes 99 00 00\norder\n";
+    fs::write(directory.join("text"), text).expect("it is written");
+    let made = run(&directory, &["make", "text", "-o", "journal"], &[]);
+    assert!(made.status.success());
+    let journal = fs::read(directory.join("journal")).expect("the journal is made");
+    let page = ["picture", "journal", "-o", "page.html"];
+    for words in [&["show", "journal"][..], &["explain", "journal"], &page] {
+        let output = run(&directory, words, &[]);
+        let told = "yardstick: journal: byte 12: refusal 21, the tag is unknown\n";
+        assert_eq!(output.status.code(), Some(1), "{words:?}");
+        assert_eq!(String::from_utf8_lossy(&output.stderr), told, "{words:?}");
+    }
+    let shown = run(&directory, &["show", "journal"], &[]).stdout;
+    assert_eq!(run(&directory, &["make", "-"], &shown).stdout, journal);
+    let pictured = run(&directory, &["picture", "journal"], &[]).stdout;
+    assert!(fs::read(directory.join("page.html")).is_ok_and(|page| page == pictured));
+    let replayed = run(&directory, &["replay", "journal"], &[]);
+    assert!(replayed.status.success() && replayed.stderr.is_empty());
+    assert_eq!(replayed.stdout, b"0 0 0\n1 8 0\n2 21 12\n");
+}
+
+/// Whoever mixes up the two forms of a journal is told.
+#[test]
+fn a_text_is_no_journal() {
+    let directory = directory("mixed_up");
+    for command in JOURNAL_READERS {
+        let output = run(&directory, &[command, "-"], b"start 1 card 1 block\n");
+        let told = "yardstick: standard input: byte 0: refusal 21, the tag is unknown; \
+                    this looks like text: `make` turns it into a journal\n";
+        assert_eq!(output.status.code(), Some(1), "{command}");
+        assert_eq!(String::from_utf8_lossy(&output.stderr), told, "{command}");
     }
 }
 
@@ -316,49 +472,98 @@ fn make_replaces_a_file_and_nothing_else() {
     assert_eq!(names(&directory), ["folder", "link", "old", "text"]);
 }
 
-/// Nobody reads what is written: the reader is gone before there is input.
+/// The permissions of a file, as the numbers that `chmod` takes.
+#[cfg(unix)]
+fn mode(path: &Path) -> u32 {
+    use std::os::unix::fs::PermissionsExt;
+    let found = fs::metadata(path).expect("it is there");
+    found.permissions().mode() & 0o7777
+}
+
 #[cfg(unix)]
 #[test]
-fn a_closed_output_is_told() {
+fn a_replaced_file_keeps_its_permissions() {
+    use std::os::unix::fs::PermissionsExt;
+    let directory = directory("permissions");
+    fs::write(directory.join("text"), "order").expect("it is written");
+    let old = directory.join("old");
+    let words = ["make", "text", "-o", "old"];
+    for kept in [0o600, 0o640, 0o666, 0o200] {
+        fs::write(&old, "old").expect("it is written");
+        fs::set_permissions(&old, fs::Permissions::from_mode(kept)).expect("they are set");
+        assert!(run(&directory, &words, &[]).status.success(), "{kept:o}");
+        assert_eq!(mode(&old), kept);
+        fs::set_permissions(&old, fs::Permissions::from_mode(0o600)).expect("they are set");
+        assert!(fs::read(&old).is_ok_and(|found| found == [0x14, 0, 0]));
+    }
+    fs::write(&old, "old").expect("it is written");
+    fs::set_permissions(&old, fs::Permissions::from_mode(0o444)).expect("it is locked");
+    fails(&directory, &words, "old: read-only, so it is not replaced");
+    assert!(fs::read(&old).is_ok_and(|found| found == b"old") && mode(&old) == 0o444);
+    assert_eq!(names(&directory), ["old", "text"]);
+}
+
+/// Runs the program with another standard output than a pipe that is read.
+#[cfg(unix)]
+fn run_into(stdout: Stdio, words: &[&str], input: &[u8]) -> Output {
+    let mut child = Command::new(PROGRAM)
+        .args(words)
+        .stdin(Stdio::piped())
+        .stdout(stdout)
+        .stderr(Stdio::piped())
+        .spawn()
+        .expect("the program starts");
+    // If it is a pipe, its reader is gone before there is input.
+    drop(child.stdout.take());
+    let mut stdin = child.stdin.take().expect("its input is open");
+    stdin.write_all(input).expect("it reads all input");
+    drop(stdin);
+    child.wait_with_output().expect("the program ends")
+}
+
+/// Nobody reads what is written, as where `head` has seen enough: the status
+/// alone says it. A full disk is told.
+#[cfg(target_os = "linux")]
+#[test]
+fn a_closed_output_is_quiet_and_a_full_one_is_told() {
     let journal = yardstick::generate::generate(3, false);
     let text = yardstick::show::show(&journal, usize::MAX);
     for (words, input) in [
         (&["show", "-"][..], &journal[..]),
         (&["make", "-"], text.as_bytes()),
         (&["explain", "-"], &journal),
+        (&["picture", "-"], &journal),
         (&["replay"], &journal),
     ] {
-        let mut child = Command::new(PROGRAM)
-            .args(words)
-            .stdin(Stdio::piped())
-            .stdout(Stdio::piped())
-            .stderr(Stdio::piped())
-            .spawn()
-            .expect("the program starts");
-        drop(child.stdout.take());
-        let mut stdin = child.stdin.take().expect("its input is open");
-        stdin.write_all(input).expect("it reads all input");
-        drop(stdin);
-        let output = child.wait_with_output().expect("the program ends");
+        let output = run_into(Stdio::piped(), words, input);
         assert_eq!(output.status.code(), Some(1), "{words:?}");
-        assert!(String::from_utf8_lossy(&output.stderr).contains("cannot write"));
+        assert!(output.stderr.is_empty(), "{words:?}");
+        let full = fs::OpenOptions::new().write(true).open("/dev/full");
+        let output = run_into(full.expect("it is there").into(), words, input);
+        assert_eq!(output.status.code(), Some(1), "{words:?}");
+        let told = String::from_utf8_lossy(&output.stderr);
+        assert!(told.starts_with("yardstick: cannot write: "), "{words:?}");
     }
 }
 
-/// Any bytes have status 0 or 1, and no colours where there is no terminal.
+/// Any bytes have status 0 or 1, and no colours where there is no terminal. A
+/// journal has status 1 exactly where its run ends early.
 #[test]
 fn any_bytes_are_taken_or_refused() {
     let directory = directory("any_bytes");
     let mut random = yardstick::random::Random::new(5);
-    for _ in 0..50 {
-        let bytes: Vec<u8> = (0..random.place(400)).map(|_| random.byte()).collect();
+    for round in 0..50 {
+        let mut bytes: Vec<u8> = (0..random.place(400)).map(|_| random.byte()).collect();
+        if round % 2 == 0 {
+            bytes = yardstick::generate::generate(round, round % 4 == 0);
+        }
+        let ends = yardstick::replay::Replay::new(&bytes).any(|line| line.is_last());
         for command in READERS {
             let output = run(&directory, &[command, "-"], &bytes);
-            let may_refuse = command == "make" && output.status.code() == Some(1);
-            assert!(
-                output.status.success() || may_refuse,
-                "{command}: {bytes:?}"
-            );
+            let is_told = output.status.code() == Some(1) && !output.stderr.is_empty();
+            let is_quiet = output.status.success() && output.stderr.is_empty();
+            assert!(is_told || is_quiet, "{command}: {bytes:?}");
+            assert!(command == "make" || is_told == ends, "{command}: {bytes:?}");
             assert!(command == "make" || !output.stdout.contains(&0x1b));
         }
     }

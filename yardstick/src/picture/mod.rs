@@ -16,10 +16,10 @@ use crate::run::{Run, Seen};
 
 /// What the page needs to know of a journal.
 pub struct Picture {
-    /// How many bytes count.
+    /// How many bytes the journal has.
+    pub(crate) length: usize,
+    /// How many of them are read.
     pub(crate) bytes: usize,
-    /// Whether bytes follow that do not count.
-    pub(crate) has_unread: bool,
     /// The sizes of the chassis; none if it was never started.
     pub(crate) sizes: Option<(u8, u8)>,
     pub(crate) steps: Vec<Step>,
@@ -65,13 +65,37 @@ impl Picture {
         while let Some(seen) = run.see() {
             steps.push(step(&seen));
         }
-        let bytes = counted(journal).len();
-        Picture {
-            bytes,
-            has_unread: journal.len() > bytes,
+        let mut picture = Picture {
+            length: journal.len(),
+            bytes: counted(journal).len(),
             sizes: run.chassis().map(|last| (last.cards, last.blocks)),
             steps,
+        };
+        picture.mark_cut();
+        picture
+    }
+
+    /// Marks the record that is cut short by the limit as that, and not as
+    /// damage.
+    fn mark_cut(&mut self) {
+        if self.cut_by_limit().is_none() {
+            return;
         }
+        if let Some(last) = self.steps.last_mut() {
+            last.mark = "cut short".to_string();
+        }
+    }
+
+    /// Whether bytes follow that are not read.
+    pub(crate) fn has_unread(&self) -> bool {
+        self.length > self.bytes
+    }
+
+    /// The record that is cut short since the journal is read only so far.
+    pub(crate) fn cut_by_limit(&self) -> Option<&Step> {
+        let last = self.steps.last()?;
+        let is_cut = last.line.answer == Err(Refusal::CutShort);
+        (self.has_unread() && is_cut).then_some(last)
     }
 
     /// Whether the last record ended the run before the journal's end.

@@ -7,8 +7,6 @@ use super::numbers::numbers;
 use super::words::MEANINGS;
 use super::{Kind, Picture, Step};
 use crate::refusal::Refusal;
-use crate::replay::JOURNAL_LIMIT;
-use crate::show::Many;
 use crate::table;
 
 /// The page, with names in double braces where something is to be put.
@@ -84,19 +82,38 @@ fn summary(picture: &Picture) -> String {
     let refused = steps().filter(|step| step.line.answer.is_err());
     let counts = format!(
         "{}, {}, {}",
-        Many(records.count(), "record"),
-        Many(refused.count(), "refusal"),
-        Many(picture.bytes, "byte"),
+        many(records.count(), "record"),
+        many(refused.count(), "refusal"),
+        many(picture.length, "byte"),
     );
     let Some((cards, blocks)) = picture.sizes else {
         return format!("no chassis, {counts}");
     };
-    let cards = Many(usize::from(cards), "card");
-    let blocks = Many(usize::from(blocks), "block");
+    let cards = many(usize::from(cards), "card");
+    let blocks = many(usize::from(blocks), "block");
     format!("{cards}, {blocks}, {counts}")
 }
 
-/// What a reader should know first: the damage, and bytes that do not count.
+/// How many there are of something.
+fn many(count: usize, of: &str) -> String {
+    let plural = if count == 1 { "" } else { "s" };
+    format!("{} {of}{plural}", grouped(count))
+}
+
+/// A number with a comma before each three digits, as the paper writes it.
+fn grouped(number: usize) -> String {
+    let digits = number.to_string();
+    let mut out = String::new();
+    for (at, digit) in digits.chars().enumerate() {
+        if at > 0 && (digits.len() - at).is_multiple_of(3) {
+            out.push(',');
+        }
+        out.push(digit);
+    }
+    out
+}
+
+/// What a reader should know first: the damage, and bytes that are not read.
 fn notices(picture: &Picture) -> String {
     let mut out = String::new();
     let last = picture.steps.last();
@@ -104,21 +121,31 @@ fn notices(picture: &Picture) -> String {
         // Writing to a string cannot fail.
         let _ = writeln!(out, "<p class=\"notice bad\">{}</p>", escaped(&words));
     }
-    if picture.has_unread {
-        let _ = writeln!(
-            out,
-            "<p class=\"notice\">Only the first {JOURNAL_LIMIT} bytes are read; more follow. \
-             A record across that place is cut short.</p>"
-        );
+    if picture.has_unread() {
+        let _ = writeln!(out, "<p class=\"notice\">{}</p>", unread_words(picture));
     }
     out
 }
 
-/// Why the run ended before the journal did, if so.
+/// How much of the journal is read, and which record that cuts short, if any.
+fn unread_words(picture: &Picture) -> String {
+    let (read, length) = (grouped(picture.bytes), grouped(picture.length));
+    let cut = picture.cut_by_limit().map_or(String::new(), |step| {
+        let place = grouped(step.line.place);
+        format!("; the record at byte {place} is cut short by that")
+    });
+    format!("Only the first {read} of {length} bytes are read{cut}.")
+}
+
+/// Why the run ended before what is read of the journal did, if so.
 fn end_words(picture: &Picture, step: &Step) -> Option<String> {
+    if picture.cut_by_limit().is_some() {
+        return None;
+    }
     let refusal = step.line.answer.err().filter(|no| no.ends_the_run())?;
-    let (number, place, text) = (step.line.number, step.line.place, &step.text);
-    let unrun = Many(picture.bytes.saturating_sub(place), "byte");
+    let (number, place) = (grouped(step.line.number), grouped(step.line.place));
+    let text = &step.text;
+    let unrun = many(picture.bytes.saturating_sub(step.line.place), "byte");
     Some(match (refusal, step.kind) {
         _ if picture.bytes == 0 => {
             format!("The journal is empty: it has no opening record ({refusal}).")

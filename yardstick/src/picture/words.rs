@@ -4,11 +4,13 @@ use crate::chassis::{Chassis, Message, Request, HOME};
 use crate::events::{Delivered, Event, Ordered};
 use crate::journal::Record;
 use crate::names::{Kind, State};
+use crate::reasons::reason;
 use crate::run::Seen;
+use crate::show::Many;
+use crate::stores::Struck;
 use crate::table::STATES;
 
-/// How many bytes that are no record are written out.
-const BYTES_SHOWN: usize = 16;
+pub(super) use crate::told::text;
 
 /// What each state means, in the order of the state numbers.
 pub(crate) const MEANINGS: [&str; STATES] = [
@@ -24,24 +26,6 @@ pub(crate) const MEANINGS: [&str; STATES] = [
     "asked PUTX, still stores",
     "asked PUTX, gave the data away",
 ];
-
-/// The record, or the bytes that are none.
-pub(super) fn text(seen: &Seen) -> String {
-    if let Some(record) = seen.record {
-        return record.to_string();
-    }
-    if seen.rest.is_empty() {
-        return "no bytes".to_string();
-    }
-    let shown = seen.rest.iter().take(BYTES_SHOWN);
-    let bytes: Vec<String> = shown.map(|byte| format!("{byte:02x}")).collect();
-    let more = if seen.rest.len() > BYTES_SHOWN {
-        " ..."
-    } else {
-        ""
-    };
-    format!("bytes {}{more}", bytes.join(" "))
-}
 
 /// The record in a word or two.
 pub(super) fn mark(seen: &Seen) -> String {
@@ -67,8 +51,17 @@ pub(super) fn mark(seen: &Seen) -> String {
     }
 }
 
-/// The answer in words.
+/// The answer in words, with the reason for it.
 pub(super) fn answer(seen: &Seen) -> String {
+    let words = bare_answer(seen);
+    match reason(seen) {
+        Some(reason) => format!("{words}, since {reason}"),
+        None => words,
+    }
+}
+
+/// The answer in words, without the reason for it.
+fn bare_answer(seen: &Seen) -> String {
     match (seen.line.answer, seen.record) {
         (Err(refusal), _) => {
             let end = if refusal.ends_the_run() {
@@ -113,8 +106,20 @@ fn accepted(seen: &Seen, event: Event, value: u32) -> String {
         },
         Event::Rejoin { card } => format!(
             "accepted: card {card} has nothing now, its requests left the line, \
-             blocks it owned went to home"
+             blocks it owned went to home{}",
+            struck(seen.struck)
         ),
+    }
+}
+
+/// What a Rejoin strikes, in short: only the stores to a single block are
+/// told with their last value.
+fn struck(all: &[Struck]) -> String {
+    let stores = Many(all.iter().map(|struck| struck.stores).sum(), "store");
+    match all {
+        [] => String::new(),
+        [one] => format!("; struck: {one}"),
+        _ => format!("; struck: {stores} in {} blocks", all.len()),
     }
 }
 

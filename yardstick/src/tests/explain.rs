@@ -40,6 +40,7 @@ const M2: &str = "\
 
 5 load card 1 block 0                          # at byte 32
   answer 3 0: refusal 3, the state gives no right to this
+  why    card 1 is in I (0) for block 0, which gives no right to load
   nothing changed
 
 6 load card 0 block 0                          # at byte 37
@@ -58,6 +59,7 @@ const M3_AFTER_M2: &str = "\
 
 8 order                                        # at byte 49
   answer 0 2: outcome 2, too small a mask
+  why    the mask 00000000 misses card 0 (owner)
   line   came back at place 0: card 1 block 0 GETS (1) mask 00000000 to 00000001 retry 0 to 1
   last   order number 1 to 2
 
@@ -124,12 +126,14 @@ const M8_FROM_THE_GETX: &str = "\
 
 8 order                                        # at byte 44
   answer 0 2: outcome 2, too small a mask
+  why    the mask 00000001 misses card 1 (sharer)
   cell   card 0 block 0: S to I (1 to 0)
   line   came back at place 0: card 2 block 0 GETX (2) mask 00000001 to 00000011 retry 0 to 1
   last   order number 2 to 3
 
 9 load card 0 block 0                          # at byte 47
   answer 3 0: refusal 3, the state gives no right to this
+  why    card 0 is in I (0) for block 0, which gives no right to load
   nothing changed
 
 10 load card 1 block 0                         # at byte 52
@@ -146,6 +150,27 @@ const M8_FROM_THE_GETX: &str = "\
   last   order number 3 to 4
 
 The journal ends at byte 60.
+";
+
+/// M6 from the rejoin to the order: the store of 7 is struck, and card 1 is
+/// sent memory's 0.
+const M6_FROM_THE_REJOIN: &str = "\
+7 rejoin card 0                                # at byte 42
+  answer 0 0: done
+  cell   card 0 block 0: M to I (2 to 0), value 7 to 0
+  home   block 0: owner card 0 to home (255)
+  struck block 0: 1 store of card 0, of value 7
+
+8 ask card 1 block 0 GETS mask 00000000        # at byte 46
+";
+
+/// M7 at the order that is refused.
+const M7_AT_THE_REFUSAL: &str = "\
+10 order                                       # at byte 59
+  answer 9 0: refusal 9, the head's block has data on its way
+  why    the head is card 0 block 0 PUTX (3), and for that block card 1 is in IM_D (7) and awaits number 2
+  nothing changed
+
 ";
 
 /// A marked sequence explained, without colours.
@@ -172,6 +197,16 @@ fn m3() {
 #[test]
 fn m5() {
     assert!(explained("m5").ends_with(M5_FROM_THE_REJOIN));
+}
+
+#[test]
+fn m6() {
+    assert!(explained("m6").contains(M6_FROM_THE_REJOIN));
+}
+
+#[test]
+fn m7() {
+    assert!(explained("m7").contains(M7_AT_THE_REFUSAL));
 }
 
 #[test]
@@ -254,6 +289,29 @@ fn why_the_run_ends_is_told() {
     assert!(refused.contains(
         "  answer 14 0: refusal 14, cards are not 1 to 8 or blocks not 1 to 32\n  nothing changed\n"
     ));
+}
+
+/// The bytes that are no record stand in its place, up to 16 of them.
+#[test]
+fn damage_is_told_with_its_bytes() {
+    let mut journal = journal_of([start(1, 1)]);
+    journal.extend([0x15, 0, 2, 0, 0xab]);
+    let expected = "\
+1 bytes 15 00 02 00 ab                         # at byte 9
+  answer 22 9: refusal 22, the length does not fit the tag
+  why    tag 15 has length 1, and the length here is 2
+  nothing changed
+
+The run ends at byte 9, with 5 bytes left.
+";
+    let text = explain(&journal, Look::Plain);
+    assert!(text.ends_with(expected), "{text}");
+    let all = "bytes 15 00 02 00 ab 01 01 01 01 01 01 01 01 01 01 01";
+    journal.extend([1; 11]);
+    assert!(explain(&journal, Look::Plain).contains(&format!("1 {all} # at byte 9\n")));
+    journal.push(1);
+    assert!(explain(&journal, Look::Plain).contains(&format!("1 {all} ... # at byte 9\n")));
+    assert!(explain(&[], Look::Plain).starts_with("0 no bytes  "));
 }
 
 /// The colours are put in and nothing else.

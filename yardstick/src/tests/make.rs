@@ -1,5 +1,6 @@
 //! From the readable form to the journal, and to and fro.
 
+use crate::files::LONGEST_JOURNAL;
 use crate::generate::generate;
 use crate::make::make;
 use crate::picked::picked_journals;
@@ -9,7 +10,7 @@ use crate::script::{ask, copy, deliver, drop_copy, journal_of, load, order, rejo
 use crate::show::show;
 
 /// The words that the readable form has, and some that it has not.
-const WORDS: [&str; 32] = [
+const WORDS: [&str; 33] = [
     "start",
     "load",
     "store",
@@ -35,6 +36,7 @@ const WORDS: [&str; 32] = [
     "255",
     "256",
     "0xff",
+    "ff",
     "0x",
     "00000011",
     "4294967296",
@@ -68,7 +70,7 @@ fn each_line_is_a_record() {
         ask card 0 block 0 PUTX mask 00000000\n\
         ask card 0 block 0 kind 9 mask 11111111#near\n\
         drop card 0xff block 0x0\norder\ndeliver 63\ncopy 0x3F\nrejoin card 007\n\
-        bytes 01 fF 0x7a";
+        bytes 01 fF 7a";
     let mut expected = journal_of([
         start(2, 1),
         load(1, 2),
@@ -93,7 +95,7 @@ fn each_line_is_a_record() {
 }
 
 #[rustfmt::skip]
-const MISTAKES: [(&str, &str); 21] = [
+const MISTAKES: [(&str, &str); 23] = [
     ("\n\nload card foo block 0", "3:11: a number from 0 to 255 is expected, not `foo`"),
     ("order\ndeliver 256", "2:9: a number from 0 to 255 is expected, not `256`"),
     ("deliver -1", "1:9: a number from 0 to 255 is expected, not `-1`"),
@@ -112,6 +114,8 @@ const MISTAKES: [(&str, &str); 21] = [
     ("ask card 0 block 0 GETS mask 00000012", "1:30: a mask of 8 binary digits, or of 0x and hex digits, is expected, not `00000012`"),
     ("ask card 0 block 0 GETS mask 0x100", "1:30: a mask of 8 binary digits, or of 0x and hex digits, is expected, not `0x100`"),
     ("bytes", "1:6: a byte of two hex digits is expected, not the line's end"),
+    ("bytes 00 0x11", "1:10: a byte of two hex digits is expected, not `0x11`"),
+    ("bytes 0x", "1:7: a byte of two hex digits is expected, not `0x`"),
     ("bytes 00 1", "1:10: a byte of two hex digits is expected, not `1`"),
     ("\u{e9}\u{e9} \u{7}", "1:1: start, load, store, ask, drop, order, deliver, copy, rejoin or bytes is expected, not `\u{e9}\u{e9}`"),
     ("bytes \u{e9} \u{7}", "1:7: a byte of two hex digits is expected, not `\u{e9}`"),
@@ -140,6 +144,19 @@ fn text_that_is_not_utf_8_has_its_place() {
 #[test]
 fn the_first_mistake_makes_no_journal() {
     assert!(make(b"start 1 card 1 block\norder\norder order\n").is_err());
+}
+
+/// What the other commands would not read is not made: the longest journal
+/// is, one byte more is not.
+#[test]
+fn a_journal_that_is_too_long_is_not_made() {
+    let line = format!("bytes{}\n", " 5a".repeat(LONGEST_JOURNAL / 256));
+    let mut text = line.repeat(256);
+    let made = make(text.as_bytes()).expect("the longest one is made");
+    assert_eq!(made.len(), LONGEST_JOURNAL);
+    text.push_str("# one more\nbytes 5a\n");
+    let expected = "258:1: the journal is longer than 16777216 bytes from here on";
+    assert_eq!(mistake(&text), expected);
 }
 
 #[test]
@@ -209,7 +226,7 @@ fn random_bytes_go_to_and_fro() {
 fn random_text_is_taken_or_has_a_mistake() {
     let mut random = Random::new(2);
     let mut taken = 0;
-    for _ in 0..20_000 {
+    for _ in 0..40_000 {
         let count = random.place(12);
         let words: Vec<&str> = (0..count)
             .map(|_| WORDS[random.place(WORDS.len())])

@@ -1,5 +1,6 @@
 //! Tests that look inside the engine.
 
+mod ended;
 mod explain;
 mod formed;
 mod generated;
@@ -10,8 +11,10 @@ mod marked;
 mod order;
 mod picked;
 mod picture;
+mod reasons;
 mod replay;
 mod show;
+mod stores;
 mod told;
 mod words;
 

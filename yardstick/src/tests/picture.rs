@@ -259,9 +259,68 @@ fn a_journal_that_does_not_run_gets_a_page_that_says_so() {
     let mut cut = journal_of([start(1, 1), order()]);
     cut.extend([0x14, 0]);
     tells(&cut, "The journal is damaged at byte 12, where record 2");
-    let long = vec![order(); JOURNAL_LIMIT / 3];
-    let long = journal_of([start(1, 1)].into_iter().chain(long));
-    tells(&long, "Only the first 65536 bytes are read; more follow.");
+}
+
+/// The heading and the notices of a page.
+fn head_of(journal: &[u8]) -> String {
+    let page = page_of(journal);
+    let (head, _) = page.split_once("<noscript>").expect("a head");
+    let (_, head) = head.split_once("<h1>").expect("a heading");
+    check(journal);
+    head.to_string()
+}
+
+/// A start and so many orders, of 3 bytes each.
+fn orders(count: usize) -> Vec<u8> {
+    let orders = vec![order(); count];
+    journal_of([start(1, 1)].into_iter().chain(orders))
+}
+
+#[test]
+fn a_journal_longer_than_what_is_read_is_not_called_damaged() {
+    let long = orders(33_942);
+    assert_eq!(long.len(), 101_835);
+    let head = head_of(&long);
+    let notice = "Only the first 65,536 of 101,835 bytes are read; \
+                  the record at byte 65,535 is cut short by that.";
+    assert!(head.contains(notice) && head.contains(", 101,835 bytes<"));
+    assert_eq!(head.matches("class=\"notice").count(), 1);
+    assert!(!head.contains("damage") && !head.contains("Not run"));
+    assert!(!page_of(&long).contains("\"damage\""));
+}
+
+#[test]
+fn a_limit_between_two_records_cuts_none_short() {
+    let mut journal = orders(21_841);
+    journal.extend(journal_of([rejoin(0)]));
+    assert_eq!(journal.len(), JOURNAL_LIMIT);
+    assert!(!head_of(&journal).contains("notice"));
+    journal.extend(journal_of([order()]));
+    let head = head_of(&journal);
+    assert!(head.contains("Only the first 65,536 of 65,539 bytes are read.<"));
+    assert_eq!(head.matches("class=\"notice").count(), 1);
+}
+
+#[test]
+fn damage_before_the_limit_is_told_beside_what_is_not_read() {
+    let mut journal = orders(30_000);
+    journal[3_000] = 0x99;
+    let head = head_of(&journal);
+    let damage = "The journal is damaged at byte 3,000, where record 998 should begin: \
+                  refusal 21";
+    assert!(head.contains(damage), "{head}");
+    assert!(head.contains("Not run from there on: 62,536 bytes."));
+    assert!(head.contains("Only the first 65,536 of 90,009 bytes are read.<"));
+}
+
+/// A journal of no more than what is read, with its last record cut short.
+#[test]
+fn a_record_cut_short_by_the_journals_own_end_is_damage() {
+    let mut journal = orders(10);
+    journal.pop();
+    let head = head_of(&journal);
+    assert!(head.contains("The journal is damaged at byte 36, where record 10"));
+    assert!(!head.contains("Only the first") && head.contains(", 38 bytes<"));
 }
 
 #[test]

@@ -1,7 +1,7 @@
 //! The readable form.
 
 use crate::replay::JOURNAL_LIMIT;
-use crate::script::{ask, drop_copy, journal_of, load, order, rejoin, start, store};
+use crate::script::{ask, deliver, drop_copy, journal_of, load, order, rejoin, start, store};
 use crate::show::show;
 
 /// The readable form without the comments.
@@ -40,6 +40,39 @@ fn the_comment_has_place_and_answer() {
     let shown = show(&journal, usize::MAX);
     assert!(shown.ends_with("# 1 at byte 9: refusal 3, the state gives no right to this\n"));
     assert_eq!(show(&journal, 1).lines().count(), 1);
+}
+
+/// The paper's own journal, M2, with what each value means.
+#[test]
+fn the_comment_says_what_the_value_means() {
+    let journal = journal_of([
+        start(2, 1),
+        ask(0, 0, 2, 0),
+        order(),
+        deliver(0),
+        store(0, 0, 7),
+        load(1, 0),
+        load(0, 0),
+        ask(1, 0, 2, 0),
+        order(),
+    ]);
+    let shown = show(&journal, usize::MAX);
+    let comments: Vec<&str> = shown
+        .lines()
+        .filter_map(|line| Some(line.split_once("# ")?.1))
+        .collect();
+    let expected = [
+        "0 at byte 0: the chassis is started",
+        "1 at byte 9: done",
+        "2 at byte 16: outcome 1, granted",
+        "3 at byte 19: outcome 1, taken",
+        "4 at byte 23: done",
+        "5 at byte 32: refusal 3, the state gives no right to this",
+        "6 at byte 37: value 7",
+        "7 at byte 42: done",
+        "8 at byte 49: outcome 2, too small a mask",
+    ];
+    assert_eq!(comments, expected);
 }
 
 #[test]

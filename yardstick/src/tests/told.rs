@@ -129,7 +129,11 @@ fn make_told(chassis: &mut Chassis, told: &str) {
         "line" => change_line(chassis, how),
         "pool" => change_pool(chassis, how),
         "last" => chassis.last_order = OrderNumber(last_number(how, ",")),
-        _ => assert!(["answer", "all", "nothing"].contains(&part), "{told}"),
+        // These say nothing of the state after the record.
+        _ => assert!(
+            ["answer", "why", "all", "struck", "nothing"].contains(&part),
+            "{told}"
+        ),
     }
 }
 

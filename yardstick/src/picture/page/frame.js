@@ -14,7 +14,7 @@ function drawDamage(pen) {
 function drawDamageSign(pen) {
   if (!data.ends) return;
   const label = "ends at byte " + records[count - 1].place + " \u25bc";
-  pen.font = "bold " + SMALL;
+  pen.font = BOLD;
   const width = pen.measureText(label).width + 8, x = xOf(count - 1) + Math.max(3, view.zoom) - width;
   pen.fillStyle = style.colours.bad;
   pen.fillRect(x, 0, width, 15);
@@ -36,7 +36,7 @@ function drawSelection(pen) {
 }
 
 const ROW_NAMES = {
-  orders: ({ drawn }) => "Block " + drawn.block, owner: () => "home: owner", memory: () => "home: memory",
+  orders: ({ drawn }) => "Block " + drawn.block, owner: () => "home: owner", memory: () => "home: memory", pool: () => "pool",
   card: ({ card }) => "card " + card, quiet: ({ drawn }) => drawn.quiet.length + " cards",
 };
 
@@ -48,7 +48,7 @@ function drawGutter(pen, rows) {
   for (const row of rows) {
     const y = yOf(row);
     const isBlock = row.kind === "orders";
-    if (isBlock) drawGutterLane(pen, y, row);
+    if (isBlock) drawBand(pen, row, style.colours.soft, row.height - 2, GUTTER);
     pen.font = isBlock ? "bold 12px system-ui, 'DejaVu Sans', sans-serif" : FONT;
     pen.fillStyle = isBlock ? style.colours.ink : style.colours.dim;
     const middle = row.kind === "card" ? MARKS + view.bar / 2 : row.height / 2 - (row.kind === "quiet" ? 0 : 1);
@@ -58,15 +58,10 @@ function drawGutter(pen, rows) {
   pen.fillRect(GUTTER - 1, AXIS, 1, view.height);
 }
 
-function drawGutterLane(pen, y, row) {
-  pen.fillStyle = style.colours.soft;
-  pen.fillRect(0, y, GUTTER, row.height - 2);
-}
-
 // Says which blocks are folded away.
 function drawFolded(pen) {
   const folded = blocks.filter((each) => !each.happens).map((each) => each.block);
-  if (folded.length === 0 || element("shown").value !== "all") return;
+  if (folded.length === 0 || shownAlone() >= 0) return;
   const names = folded.length === 1 ? "block " + folded[0] : "blocks " + runsOf(folded);
   pen.font = FONT;
   pen.fillStyle = style.colours.dim;

@@ -19,7 +19,7 @@ const WIDEST_MARK = 180;
 
 // Marks above a card's bar.
 function drawMarks(pen, row) {
-  const y = yOf(row) + MARKS / 2 + 0.5;
+  const y = yOf(row) + MARKS - 6;
   drawItems(row.drawn.cards[row.card].marks, (record) => record, (record, x, room) => drawMark(pen, record, x, y, room));
 }
 
@@ -38,8 +38,8 @@ function drawMark(pen, record, x, y, room) {
   if (!label) return pen.fillRect(x + view.zoom / 2 - 1, y - 3, Math.max(1, Math.min(2, view.zoom)), 7);
   pen.strokeStyle = style.colours.back;
   pen.lineWidth = 3;
-  pen.strokeText(label, x + 2, y);
-  pen.fillText(label, x + 2, y);
+  pen.strokeText(label, x + 3, y);
+  pen.fillText(label, x + 3, y);
 }
 
 // The outcomes of an Order. Those that give nobody anything are hollow.

@@ -1,61 +1,78 @@
-// Drawing the messages.
+// Drawing the messages. Each lies in a lane of its block's pool, from the record
+// that put it there to the one that took it out. A line leads to it from the
+// sender's row and, if it is taken, on to the receiver's bar.
 
-// How high a message starts: at the edge of the sender's row that is nearer to
-// the receiver. It ends in the middle of the receiver's bar.
-function heightsOf(drawn, { sender, receiver }) {
-  const bar = (card) => drawn.tops[card] + MARKS - scroller.scrollTop;
-  const to = bar(receiver) + view.bar / 2;
-  if (sender === HOME) return [drawn.top + HOME_ROWS - 4 - scroller.scrollTop, to];
-  return [sender < receiver ? bar(sender) + view.bar - 2 : bar(sender) + 2, to];
+// The messages of a block in sight. Far out only long ones can be seen.
+function messagesShown(drawn) {
+  const first = firstShown(), last = lastShown(), { messages } = drawn;
+  const shown = pool.filter(({ block, sent }) => block === drawn.block && sent < first - longest);
+  for (let at = Math.max(0, lastAt(messages, first - longest - 1, (each) => each.sent)); at < messages.length; at++) {
+    const message = messages[at];
+    if (message.sent > last) break;
+    if (message.ended >= first) shown.push(message);
+  }
+  return shown.filter(({ sent, ended }) => (ended - sent) * view.zoom >= 3);
 }
 
-function drawMessages(pen, drawn) {
-  const first = firstShown(), last = lastShown(), { messages } = drawn;
+// Where a message comes from, its lane, and where it goes. It starts inside the
+// column that sent it and is taken at the edge of the one that delivers it.
+function placesOf(drawn, { sender, receiver, sent, ended, fate, lane }) {
+  const inset = Math.min(view.zoom / 2, 5), barOf = (card) => drawn.tops[card] + MARKS - scroller.scrollTop;
+  const top = drawn.pool - scroller.scrollTop;
+  return {
+    x1: xOf(sent) + inset, x2: xOf(ended) + (fate === "stale" ? inset : 0), lane: top + 3 + (lane + 0.5) * LANE,
+    from: sender === HOME ? top - 1 : barOf(sender) + 1, to: barOf(receiver) + 9,
+  };
+}
+
+// Draws inside the part of the drawing that is neither names nor numbers.
+function drawInside(pen, draw) {
   pen.save();
   pen.beginPath();
   pen.rect(GUTTER, AXIS, view.width, view.height);
   pen.clip();
-  for (const message of pool) {
-    if (message.block === drawn.block && message.sent < first - longest) drawMessage(pen, drawn, message);
-  }
-  for (let at = Math.max(0, lastAt(messages, first - longest - 1, (each) => each.sent)); at < messages.length; at++) {
-    const message = messages[at];
-    if (message.sent > last) break;
-    if (message.ended >= first) drawMessage(pen, drawn, message);
-  }
+  draw();
   pen.restore();
 }
 
 const DASHES = { taken: [], stale: [5, 4], waiting: [2, 4] };
+const FAR_OUT = 3;
+const colourOf = ({ fate }) => style.colours[fate === "stale" ? "stale" : "message"];
 
-// A message from the column that sent it to the edge of the one that took it.
-// Far out only long ones can be seen, and only they are drawn.
-function drawMessage(pen, drawn, message) {
-  const inset = Math.min(view.zoom / 2, 12), x1 = xOf(message.sent) + inset;
-  const x2 = xOf(message.ended) + (message.fate === "stale" ? inset : 0);
-  if (x2 - x1 < 2) return;
-  const [y1, y2] = heightsOf(drawn, message);
-  pen.lineCap = "round";
+// The line of a message, as far as it is in sight. A copy begins in the pool. Far
+// out only the lane is drawn, for the rest would hide the bars. Dashes stand at
+// the same places in every line, so that lines over each other are still dashed.
+function drawLine(pen, drawn, message) {
+  const { x1, x2, lane, from, to } = placesOf(drawn, message), isNear = view.zoom > FAR_OUT;
+  const left = Math.max(x1, GUTTER - 9), right = Math.min(x2, view.width + 9);
+  const start = isNear && !message.isCopy && left === x1 ? from : lane;
   pen.beginPath();
-  pen.moveTo(x1, y1);
-  pen.lineTo(x2, y2);
-  if (view.zoom > 5) strokeWith(pen, style.colours.back, 4.5, []);
-  const colour = style.colours[message.fate === "stale" ? "stale" : "message"];
-  strokeWith(pen, colour, message.isCopy ? 1.2 : 2, DASHES[message.fate]);
-  if (view.zoom > 3) drawEnds(pen, message, colour, x1, y1, x2, y2);
-  if (Math.hypot(x2 - x1, y2 - y1) > 70) drawNumber(pen, message, colour, x1, y1, x2, y2);
+  pen.moveTo(left, start);
+  pen.lineTo(left, lane);
+  pen.lineTo(right, lane);
+  if (isNear && message.fate === "taken" && right === x2) pen.lineTo(x2, to - 6);
+  pen.lineJoin = "round";
+  pen.lineDashOffset = left - xOf(0) - Math.abs(lane - start);
+  strokeWith(pen, colourOf(message), message.isCopy ? 1.2 : 2, DASHES[message.fate]);
 }
 
-// The order number of a message, a third of the way along it.
-function drawNumber(pen, message, colour, x1, y1, x2, y2) {
-  pen.font = "bold " + SMALL;
-  pen.textAlign = "center";
-  const x = x1 + (x2 - x1) / 3, y = y1 + (y2 - y1) / 3;
-  pen.lineWidth = 4;
-  pen.strokeStyle = style.colours.back;
-  pen.strokeText("#" + message.number, x, y);
+// The number of a message on its lane, with where it goes if there is room. If
+// it is too short even for the number, that stands after its end.
+function drawNumber(pen, drawn, message) {
+  const { x1, x2, lane } = placesOf(drawn, message), x = Math.max(GUTTER, x1) + 7;
+  const number = "#" + message.number, to = " to card " + message.receiver;
+  const labels = [number + " " + holderOf(message.sender) + to, number + to, number];
+  const label = fitting(pen, BOLD, labels, xOf(Math.min(message.ended, message.next)) - x - 4);
+  if (label) drawGrounded(pen, label, x, lane, colourOf(message));
+  else if (fitting(pen, BOLD, [number], xOf(message.next) - x2 - 10)) drawGrounded(pen, number, x2 + 7, lane, colourOf(message));
+}
+
+// A bold text on the page's ground, so that no line goes through it.
+function drawGrounded(pen, text, x, y, colour) {
+  pen.fillStyle = style.colours.back;
+  pen.fillRect(x - 2, y - 6, widthOf(pen, BOLD, text) + 4, LANE);
   pen.fillStyle = colour;
-  pen.fillText("#" + message.number, x, y);
+  pen.fillText(text, x, y + 0.5);
 }
 
 function strokeWith(pen, colour, width, dashes) {
@@ -66,38 +83,40 @@ function strokeWith(pen, colour, width, dashes) {
   pen.setLineDash([]);
 }
 
-// A dot where it was sent (open for a copy), an arrowhead where it was taken,
-// a cross where it was found stale.
-function drawEnds(pen, message, colour, x1, y1, x2, y2) {
-  pen.fillStyle = message.isCopy ? style.colours.back : colour;
-  pen.beginPath();
-  pen.arc(x1, y1, 3.2, 0, 7);
-  pen.fill();
-  strokeWith(pen, colour, 1.4, []);
-  if (message.fate === "waiting") return;
-  pen.save();
-  pen.translate(x2, y2);
-  drawArrival(pen, message.fate, colour, Math.atan2(y2 - y1, x2 - x1));
-  pen.restore();
+// The ends of a message: a dot where it was sent (open for a copy), an arrowhead
+// where it was taken, a cross where it was found stale.
+function drawEnds(pen, drawn, message) {
+  const { x1, x2, lane, from, to } = placesOf(drawn, message), colour = colourOf(message);
+  drawDot(pen, message, colour, x1, message.isCopy ? lane : from);
+  if (message.fate === "taken") drawHead(pen, colour, x2, to);
+  if (message.fate === "stale") drawCross(pen, colour, x2, lane);
 }
 
-function drawArrival(pen, fate, colour, angle) {
+function drawDot(pen, { isCopy }, colour, x, y) {
+  pen.fillStyle = isCopy ? style.colours.back : colour;
   pen.beginPath();
-  if (fate === "stale") {
-    for (const side of [1, -1]) {
-      pen.moveTo(-4, -4 * side);
-      pen.lineTo(4, 4 * side);
-    }
-    strokeWith(pen, style.colours.back, 5, []);
-    strokeWith(pen, colour, 2.4, []);
-    return;
-  }
-  pen.rotate(angle);
-  pen.moveTo(1, 0);
-  pen.lineTo(-9, -5);
-  pen.lineTo(-9, 5);
-  pen.closePath();
-  strokeWith(pen, style.colours.back, 3, []);
-  pen.fillStyle = colour;
+  pen.arc(x, y, 3.2, 0, 7);
   pen.fill();
+  strokeWith(pen, colour, 1.4, []);
+}
+
+// An arrowhead that points down to a place.
+function drawHead(pen, colour, x, y) {
+  pen.fillStyle = colour;
+  pen.beginPath();
+  pen.moveTo(x, y);
+  pen.lineTo(x - 4, y - 8);
+  pen.lineTo(x + 4, y - 8);
+  pen.closePath();
+  pen.fill();
+  strokeWith(pen, style.colours.back, 1, []);
+}
+
+function drawCross(pen, colour, x, y) {
+  pen.beginPath();
+  for (const side of [1, -1]) {
+    pen.moveTo(x - 4, y - 4 * side);
+    pen.lineTo(x + 4, y + 4 * side);
+  }
+  strokeWith(pen, colour, 2.4, []);
 }

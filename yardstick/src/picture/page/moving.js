@@ -2,16 +2,15 @@
 
 let told = 0;
 
-// Selects a record and shows it in the panel, with a block or with its own.
+// Selects a record and shows it in the panel, with a block, with the one that is
+// shown alone, or with its own.
 function select(number, block) {
   if (count === 0) return;
   view.selected = Math.min(count - 1, Math.max(0, Math.round(number) || 0));
-  const own = records[view.selected].block;
+  const own = shownAlone() >= 0 ? shownAlone() : records[view.selected].block;
   if (block !== undefined) view.block = block; else if (own >= 0) view.block = own;
   element("jump").value = view.selected;
-  element("previous").disabled = view.selected === 0;
-  element("next").disabled = view.selected === count - 1;
-  tellRefusals();
+  tellSteps();
   showPanel();
   askDrawing();
   clearTimeout(told);
@@ -27,44 +26,81 @@ function tellAddress() {
   }
 }
 
-function tellRefusals() {
-  const before = lastAt(refusals, view.selected, (each) => each);
-  const isOne = refusals[before] === view.selected;
-  element("refusals").textContent = isOne ? "refusal " + (before + 1) + " of " + refusals.length
-    : refusals.length + (refusals.length === 1 ? " refusal" : " refusals");
-  element("previous-refusal").disabled = before - (isOne ? 1 : 0) < 0;
-  element("next-refusal").disabled = before + 1 >= refusals.length;
+// Says where the selected record is among those that stepping goes over.
+function tellSteps() {
+  const { refusals: numbers } = view, before = lastAt(numbers, view.selected, itself), isOne = numbers[before] === view.selected;
+  element("refusals").textContent = isOne ? "refusal " + (before + 1) + " of " + numbers.length
+    : numbers.length + (numbers.length === 1 ? " refusal" : " refusals");
+  for (const [id, list, step] of [["previous", view.steps, -1], ["next", view.steps, 1],
+    ["previous-refusal", numbers, -1], ["next-refusal", numbers, 1]]) {
+    element(id).disabled = besides(list, step) === undefined;
+  }
 }
 
-// Selects a record and scrolls to it if it is out of sight.
+// Stepping goes over every record or, if one block is shown, over those that
+// are about it or about no single block.
+function chooseSteps() {
+  const only = shownAlone(), isStep = ({ block }) => only < 0 || block < 0 || block === only;
+  view.steps = records.filter(isStep).map(({ number }) => number);
+  view.refusals = refusals.filter((number) => isStep(records[number]));
+  element("stepped").textContent = only < 0 ? "" : ", about block " + only + " or no single block";
+}
+
+// Shows the blocks chosen, in the panel too.
+function showChosen() {
+  chooseSteps();
+  resize();
+  select(view.selected);
+  showRow();
+}
+
+const itself = (number) => number;
+
+// The number before or after the selected record in a list of records, if any.
+function besides(numbers, step) {
+  const before = lastAt(numbers, step > 0 ? view.selected : view.selected - 1, itself);
+  return numbers[step > 0 ? before + 1 : before];
+}
+
+function goAlong(numbers, step, block) {
+  const found = besides(numbers, step);
+  if (found !== undefined) goTo(found, block);
+}
+
+const goInBlock = (step) => goAlong(blocks[view.block].numbers, step, view.block);
+
+// Selects a record and scrolls to it if it is out of sight. If its block is not
+// shown, all are.
 function goTo(number, block) {
   select(number, block);
+  if (view.steps[lastAt(view.steps, view.selected, itself)] !== view.selected) {
+    element("shown").value = "all";
+    showChosen();
+  }
   const left = view.selected * view.zoom, room = view.width - GUTTER;
   const isSeen = left >= scroller.scrollLeft && left + view.zoom <= scroller.scrollLeft + room;
   if (!isSeen) scroller.scrollLeft = left - room / 2;
-  showRowOf(records[view.selected].block);
+  showRow();
 }
 
-// Scrolls down or up to a block that is out of sight.
-function showRowOf(block) {
-  const row = view.rows.find((each) => each.kind === "orders" && each.drawn.block === block);
+// The row that the selected record is marked in, in the panel's block if it is
+// marked in several.
+function markedRow() {
+  const record = records[view.selected], kind = record.kind !== KIND.rejoin && isHomes(record) ? "orders" : "card";
+  const isIn = ({ numbers }) => numbers[lastAt(numbers, record.number, itself)] === record.number;
+  const rows = view.rows.filter((row) => row.kind === kind && (kind === "orders" || row.card === record.card) && isIn(row.drawn));
+  return rows.find(({ drawn }) => drawn.block === view.block) || rows[0];
+}
+
+// Scrolls down or up until that row is in sight, and its block's name if there
+// is room for both.
+function showRow() {
+  const row = markedRow();
   if (!row) return;
-  const isSeen = row.drawn.end > scroller.scrollTop + AXIS + 60 && row.top < scroller.scrollTop + view.height - 80;
-  if (!isSeen) scroller.scrollTop = row.top - AXIS - 8;
-}
-
-function goToRefusal(step) {
-  const before = lastAt(refusals, step > 0 ? view.selected : view.selected - 1, (each) => each);
-  const found = refusals[step > 0 ? before + 1 : before];
-  if (found !== undefined) goTo(found);
-}
-
-// The next record of the block that the panel shows.
-function goInBlock(step) {
-  const numbers = blocks[view.block] ? blocks[view.block].numbers : [];
-  const before = lastAt(numbers, step > 0 ? view.selected : view.selected - 1, (each) => each);
-  const found = numbers[step > 0 ? before + 1 : before];
-  if (found !== undefined) goTo(found, view.block);
+  const room = view.height - AXIS, end = row.top + row.height;
+  const top = end - row.drawn.top <= room ? row.drawn.top : row.top;
+  if (top < scroller.scrollTop + AXIS) scroller.scrollTop = top - AXIS - 4;
+  else if (end > scroller.scrollTop + view.height) scroller.scrollTop = end - view.height;
 }
 
 // Zooms and keeps the record under a place where it is.
@@ -99,7 +135,7 @@ function hint(event) {
   if (row && row.kind === "card" && number >= 0) {
     const { segments } = row.drawn.cards[row.card];
     const [state] = segments[lastAt(segments, number, (each) => each.at)].cell;
-    parts.push("Card " + row.card + ", block " + row.drawn.block + ": " + data.states[state].slice(0, 2).join(", ") + ".");
+    parts.push("Card " + row.card + ", block " + row.drawn.block + ": " + stateName(state) + ", " + data.states[state][1] + ".");
   }
   element("hint").textContent = parts.join("  ");
 }
@@ -110,18 +146,20 @@ function pick(event) {
   scroller.focus({ preventScroll: true });
 }
 
+// Selects the record under the pointer and moves it to the middle.
 function dragOverview(event) {
   if (event.type === "pointermove" && event.buttons === 0) return;
-  scroller.scrollLeft = ((event.offsetX - 8) / overviewScale()) * view.zoom - (view.width - GUTTER) / 2;
+  select(Math.floor((event.offsetX - 8) / overviewScale()));
+  scroller.scrollLeft = view.selected * view.zoom - (view.width - GUTTER) / 2;
 }
 
 const KEYS = {
-  ArrowLeft: (event) => (event.shiftKey ? goInBlock(-1) : goTo(view.selected - 1)),
-  ArrowRight: (event) => (event.shiftKey ? goInBlock(1) : goTo(view.selected + 1)),
-  Home: () => goTo(0),
-  End: () => goTo(count - 1),
-  n: () => goToRefusal(1),
-  p: () => goToRefusal(-1),
+  ArrowLeft: (event) => (event.shiftKey ? goInBlock(-1) : goAlong(view.steps, -1)),
+  ArrowRight: (event) => (event.shiftKey ? goInBlock(1) : goAlong(view.steps, 1)),
+  Home: () => goTo(view.steps[0]),
+  End: () => goTo(view.steps[view.steps.length - 1]),
+  n: () => goAlong(view.refusals, 1),
+  p: () => goAlong(view.refusals, -1),
   "+": () => zoomTo(view.zoom * 1.4),
   "=": () => zoomTo(view.zoom * 1.4),
   "-": () => zoomTo(view.zoom / 1.4),

@@ -69,7 +69,7 @@ function blockTitle() {
 function cellTable(state, changed) {
   const rows = state.cells[view.block].map(([code, value, awaited], card) => ({
     isChanged: changed(CELL, view.block, card),
-    cells: ["card " + card, [swatch(code), data.states[code][0]], value, awaited ? "order " + awaited : ""],
+    cells: ["card " + card, [swatch(code), stateName(code)], value, awaited ? "order " + awaited : ""],
   }));
   return tableOf(["card", "state", "value", "awaits"], rows);
 }

@@ -1,23 +1,33 @@
 // Where things are, and when they are drawn.
 
 // Sizes in pixels: the names at the left, the record numbers on top, then the
-// rows. A card's row has its marks above its bar, which is low or high.
-const GUTTER = 100, AXIS = 34, ORDERS = 22, HOME_ROW = 19, MARKS = 13, QUIET = 22, GAP = 14, BARS = [19, 36];
+// rows. The pool's row has lanes. A card's row has a rule, its marks, and right
+// under them its bar, which is low or high; then a space up to the next card.
+const GUTTER = 100, AXIS = 34, ORDERS = 22, HOME_ROW = 19, LANE = 12, MARKS = 15, SPACE = 6, QUIET = 22, GAP = 14, BARS = [19, 36];
 const FONT = "11px system-ui, 'Segoe UI', 'DejaVu Sans', sans-serif";
 const SMALL = "10px system-ui, 'Segoe UI', 'DejaVu Sans', sans-serif";
+const BOLD = "bold " + SMALL;
 const scroller = element("scroller"), drawing = element("drawing"), overview = element("overview");
 
 // What is in sight and what is selected. `zoom` is the width of a column.
-const view = { zoom: 20, width: 0, height: 0, selected: 0, block: 0, rows: [], bar: 0, tall: 0, asked: false };
+// `steps` and `refusals` are the records that stepping goes over.
+const view = {
+  zoom: 20, width: 0, height: 0, selected: 0, block: 0, steps: [], refusals: [], rows: [], bar: 0, tall: 0, asked: false,
+};
 
 // The widest column, and the narrowest and the widest that the page begins with.
 const MOST = 150, USUAL = 26, WIDEST_AT_FIRST = 118;
 
-const HOME_ROWS = ORDERS + 2 * HOME_ROW + 3;
+// How high the rows above a block's cards are.
+const homeHeight = (drawn) => ORDERS + 2 * HOME_ROW + 3 + poolHeight(drawn);
+const poolHeight = ({ lanes }) => (lanes > 0 ? lanes * LANE + 6 : 0);
+
+// The block that is chosen to be shown alone, or -1.
+const shownAlone = () => (element("shown").value === "all" ? -1 : Number(element("shown").value));
 
 function blocksShown() {
-  const only = element("shown").value;
-  return blocks.filter((drawn) => (only === "all" ? drawn.happens : drawn.block === Number(only)));
+  const only = shownAlone();
+  return blocks.filter((drawn) => (only < 0 ? drawn.happens : drawn.block === only));
 }
 
 // The cards of a block that share one row, for several of them stay in I.
@@ -26,8 +36,9 @@ const sharedRow = (drawn) => (element("every").checked || drawn.quiet.length < 2
 // Where there is room to spare, the cards' bars are higher.
 function barHeight(shown) {
   const cards = shown.reduce((sum, drawn) => sum + data.cards - sharedRow(drawn).length, 0);
-  const spare = view.height - AXIS - 40 - shown.length * (HOME_ROWS + QUIET + GAP);
-  return Math.min(BARS[1], Math.max(BARS[0], Math.floor(spare / Math.max(1, cards)) - MARKS - 3));
+  const others = shown.reduce((sum, drawn) => sum + homeHeight(drawn) + QUIET + GAP, 0);
+  const spare = (view.height - AXIS - 40 - others) / Math.max(1, cards);
+  return Math.min(BARS[1], Math.max(BARS[0], Math.floor(spare) - MARKS - SPACE));
 }
 
 // The rows from top to bottom, each with its block and its place.
@@ -47,9 +58,11 @@ function layRows() {
     add("orders", ORDERS, drawn);
     add("owner", HOME_ROW, drawn);
     add("memory", HOME_ROW + 3, drawn);
+    drawn.pool = top;
+    if (drawn.lanes > 0) add("pool", poolHeight(drawn), drawn);
     for (let card = 0; card < data.cards; card++) {
       drawn.tops[card] = top;
-      if (!shared.includes(card)) add("card", MARKS + view.bar + 3, drawn, card);
+      if (!shared.includes(card)) add("card", MARKS + view.bar + SPACE, drawn, card);
     }
     if (shared.length > 0) add("quiet", QUIET, drawn);
     drawn.end = top;
@@ -82,6 +95,10 @@ function resize() {
   view.pen = fitCanvas(drawing, view.width, view.height);
   view.small = fitCanvas(overview, overview.clientWidth, overview.clientHeight);
   view.strip = makeStrip();
+  layAgain();
+}
+
+function layAgain() {
   layRows();
   sizeRoom();
   askDrawing();

@@ -1,17 +1,18 @@
-// Drawing the rows: the states of the cards, and what home has.
+// Drawing the rows: the states of the cards, and what home has. Texts come after
+// the messages' lines, so that no line goes through a text.
 
 function drawAll() {
   const { pen } = view;
   pen.fillStyle = style.colours.back;
   pen.fillRect(0, 0, view.width, view.height);
   pen.textBaseline = "middle";
-  const rows = view.rows.filter(isRowShown);
+  const rows = view.rows.filter(isRowShown), drawns = [...new Set(rows.map((row) => row.drawn))];
+  const messages = drawns.flatMap((drawn) => messagesShown(drawn).map((message) => [drawn, message]));
   for (const row of rows) drawRow(pen, row);
-  for (const drawn of new Set(rows.map((row) => row.drawn))) drawMessages(pen, drawn);
-  for (const row of rows) {
-    if (row.kind === "orders") drawOrders(pen, row);
-    if (row.kind === "card") drawMarks(pen, row);
-  }
+  drawInside(pen, () => messages.forEach((each) => drawLine(pen, ...each)));
+  for (const row of rows) drawTexts(pen, row);
+  drawInside(pen, () => messages.forEach((each) => drawNumber(pen, ...each)));
+  if (view.zoom > FAR_OUT) drawInside(pen, () => messages.forEach((each) => drawEnds(pen, ...each)));
   drawDamage(pen);
   drawSelection(pen);
   drawGutter(pen, rows);
@@ -22,28 +23,35 @@ function drawAll() {
 const yOf = (row) => row.top - scroller.scrollTop;
 const isRowShown = (row) => yOf(row) + row.height > AXIS && yOf(row) < view.height;
 
+// What a row is made of: its segments, how far below its top they are, how
+// high, and what they say. Cards that stay in I are one segment together.
+const TRACKS = {
+  owner: ({ drawn }) => ({ segments: drawn.owners, above: 1, height: HOME_ROW - 2, labels: ownerLabels }),
+  memory: ({ drawn }) => ({ segments: drawn.owners, above: 1, height: HOME_ROW - 2, labels: memoryLabels }),
+  card: ({ drawn, card }) => ({ segments: drawn.cards[card].segments, above: MARKS, height: view.bar, labels: cellLabels }),
+  quiet: ({ drawn: { quiet } }) => ({
+    segments: [{ at: 0, cell: [0, 0, 0] }], above: 4, height: QUIET - 6, labels: () => ["cards " + runsOf(quiet) + " stay in I", "I"],
+  }),
+};
+
 function drawRow(pen, row) {
-  if (row.kind === "orders") return drawLane(pen, row);
-  if (row.kind === "quiet") return drawQuiet(pen, row);
-  if (row.kind === "card") {
-    drawSegments(pen, row, row.drawn.cards[row.card].segments, MARKS, view.bar, fillCell, cellLabels);
-  } else {
-    const labels = row.kind === "owner" ? ownerLabels : memoryLabels;
-    drawSegments(pen, row, row.drawn.owners, 1, HOME_ROW - 2, fillHome, labels);
-  }
+  if (row.kind === "orders") drawBand(pen, row, style.colours.soft, row.height - 2);
+  if (row.kind === "card") drawBand(pen, row, style.colours.edge, 1);
+  drawSegments(row, (segment, from, to, { top, height }) => {
+    pen.fillStyle = fillOf(segment);
+    pen.fillRect(from, top, Math.max(0.7, to - from - (view.zoom > 6 ? 1 : 0)), height);
+  });
 }
 
-function drawLane(pen, row) {
-  pen.fillStyle = style.colours.soft;
-  pen.fillRect(0, yOf(row), view.width, row.height - 2);
+function drawTexts(pen, row) {
+  drawSegments(row, (segment, from, to, { top, height, labels }) => drawLabel(pen, labels(segment), from, to, top + height / 2, segment));
+  if (row.kind === "orders") drawOrders(pen, row);
+  if (row.kind === "card") drawMarks(pen, row);
 }
 
-function drawQuiet(pen, row) {
-  const { quiet } = row.drawn, y = yOf(row) + 4, height = QUIET - 6, label = "cards " + runsOf(quiet) + " stay in I";
-  const from = Math.max(GUTTER, xOf(0)), to = Math.min(view.width, xOf(count));
-  pen.fillStyle = style.colours.none;
-  pen.fillRect(from, y, to - from, height);
-  drawLabel(pen, [label, "I"], from, to, y + height / 2, { cell: [0] });
+function drawBand(pen, row, colour, height, width = view.width) {
+  pen.fillStyle = colour;
+  pen.fillRect(0, yOf(row), width, height);
 }
 
 // The place of the last item at or before a record, in a list by `key`.
@@ -56,9 +64,12 @@ function lastAt(list, number, key) {
   return low - 1;
 }
 
-// The segments in sight. Those narrower than a pixel share one.
-function drawSegments(pen, row, segments, above, height, fill, labels) {
-  const last = lastShown(), y = yOf(row) + above;
+// Calls `draw` for the segments of a row in sight. Those narrower than a pixel
+// share one.
+function drawSegments(row, draw) {
+  if (!TRACKS[row.kind]) return;
+  const track = TRACKS[row.kind](row), { segments } = track, last = lastShown();
+  track.top = yOf(row) + track.above;
   let drawnTo = -1;
   for (let at = Math.max(0, lastAt(segments, firstShown(), (each) => each.at)); at < segments.length; at++) {
     const segment = segments[at];
@@ -67,14 +78,11 @@ function drawSegments(pen, row, segments, above, height, fill, labels) {
     const from = Math.max(GUTTER - 2, xOf(segment.at)), to = Math.min(view.width + 2, xOf(end));
     if (to - drawnTo < 0.7) continue;
     drawnTo = to;
-    pen.fillStyle = fill(segment);
-    pen.fillRect(from, y, Math.max(0.7, to - from - (view.zoom > 6 ? 1 : 0)), height);
-    drawLabel(pen, labels(segment), from, to, y + height / 2, segment);
+    draw(segment, from, to, track);
   }
 }
 
-const fillCell = (segment) => style.patterns[segment.cell[0]];
-const fillHome = (segment) => (segment.home[1] === HOME ? style.colours.none : style.colours.edge);
+const fillOf = ({ cell, home }) => (cell ? style.patterns[cell[0]] : style.colours[home[1] === HOME ? "none" : "edge"]);
 
 // What a segment says, the longest first.
 function cellLabels(segment) {
@@ -95,22 +103,21 @@ function ownerLabels({ home: [, owner, sharers] }) {
 
 const memoryLabels = ({ home: [memory] }) => ["memory " + memory, String(memory)];
 
-// The first label that fits, on a ground of its own where a pattern is behind.
+// The first label that fits, on a ground of its own: its segment's colour, or a
+// light one where a pattern is behind.
 function drawLabel(pen, labels, from, to, y, segment) {
-  const label = fitting(pen, FONT, labels, to - from - 6);
+  const label = fitting(pen, FONT, labels, to - from - 7);
   if (!label) return;
   const state = segment.cell ? segment.cell[0] : -1;
-  if (state >= 3) {
-    pen.fillStyle = "rgba(255,255,255,0.82)";
-    pen.fillRect(from + 2, y - 7, widthOf(pen, FONT, label) + 4, 14);
-  }
+  pen.fillStyle = state >= 3 ? "rgba(255,255,255,0.88)" : fillOf(segment);
+  pen.fillRect(from + 3, y - 7, widthOf(pen, FONT, label) + 4, 14);
   pen.fillStyle = state > 0 ? "#111" : state === 0 ? style.colours.dim : style.colours.ink;
-  pen.fillText(label, from + 4, y + 0.5);
+  pen.fillText(label, from + 5, y + 0.5);
 }
 
 // The first label that fits into the room, if any, in a font. Widths are kept,
 // for measuring is slow.
-const widths = { [FONT]: new Map(), [SMALL]: new Map() };
+const widths = { [FONT]: new Map(), [SMALL]: new Map(), [BOLD]: new Map() };
 function fitting(pen, font, labels, room) {
   if (room < 6) return undefined;
   pen.font = font;

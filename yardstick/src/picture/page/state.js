@@ -17,6 +17,7 @@ function recordOf(row, number) {
 }
 const records = data.records.map(recordOf);
 const count = records.length;
+const stateName = (code) => data.states[code][0] + " (" + code + ")";
 const isEnd = (record) => data.ends && record.number === count - 1;
 
 function startState() {

@@ -38,6 +38,9 @@ function followChange(record, [what, ...numbers]) {
   }
 }
 
+// Whether a record of a block is marked in home's part and not in a card's.
+const isHomes = ({ kind, card }) => kind === KIND.order || kind === KIND.copy || card < 0;
+
 // Puts a record's mark into the rows that it is about.
 function followMark(record, head) {
   const { kind, block, card } = record;
@@ -45,7 +48,7 @@ function followMark(record, head) {
   if (block < 0) return;
   blocks[block].happens = true;
   blocks[block].numbers.push(record.number);
-  if (kind === KIND.order || kind === KIND.copy || card < 0) {
+  if (isHomes(record)) {
     const given = record.changes.find((change) => change[0] === LAST_ORDER);
     blocks[block].orders.push({ record, head, number: given ? given[1] : 0 });
   } else {
@@ -67,6 +70,32 @@ function quietCards({ cards }) {
   return cards.flatMap(({ segments, marks }, card) => (segments.length === 1 && marks.length === 0 ? [card] : []));
 }
 
+// Gives each message of a block a lane of the pool's row. Those never delivered
+// share the last one, and so do those that find no other free.
+function giveLanes(drawn) {
+  const ends = [], isWaiting = ({ fate }) => fate === "waiting";
+  for (const message of drawn.messages) {
+    if (isWaiting(message)) continue;
+    const free = ends.findIndex((end) => end < message.sent);
+    message.lane = free >= 0 ? free : Math.min(ends.length, LANES - 1);
+    ends[message.lane] = Math.max(message.ended, ends[message.lane] || 0);
+  }
+  const waiting = drawn.messages.filter(isWaiting);
+  drawn.lanes = Math.min(LANES, ends.length + (waiting.length > 0 ? 1 : 0));
+  for (const message of waiting) message.lane = drawn.lanes - 1;
+  findNext(drawn);
+}
+const LANES = 4;
+
+// Tells each message which record puts the next one into its lane.
+function findNext({ messages, lanes }) {
+  const next = Array(lanes).fill(count);
+  for (const message of messages.slice().reverse()) {
+    message.next = next[message.lane];
+    next[message.lane] = message.sent;
+  }
+}
+
 function followAll() {
   const state = startState();
   for (const record of records) {
@@ -76,6 +105,9 @@ function followAll() {
     applyRecord(state, record);
     if (record.number % KEEP_EVERY === 0) kept.push(copyOf(state));
   }
-  for (const drawn of blocks) drawn.quiet = quietCards(drawn);
+  for (const drawn of blocks) {
+    drawn.quiet = quietCards(drawn);
+    giveLanes(drawn);
+  }
 }
 followAll();
