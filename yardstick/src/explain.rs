@@ -3,11 +3,11 @@
 
 use std::fmt::{self, Write};
 
+use crate::amounts::Many;
 use crate::journal::Record;
 use crate::reasons::reason;
 use crate::replay::{counted, Line, JOURNAL_LIMIT};
 use crate::run::{Run, Seen};
-use crate::show::Many;
 use crate::told::{accepted, text, told, Told};
 
 /// What an accepted Start makes.

@@ -5,6 +5,7 @@
 
 #![forbid(unsafe_code)]
 
+mod amounts;
 pub mod arguments;
 pub mod cases;
 pub mod changes;

@@ -2,6 +2,7 @@
 //! what the record met in the chassis or the journal, with names beside
 //! numbers.
 
+use crate::amounts::Many;
 use crate::cases::Subject;
 use crate::chassis::{card_bit, Cell, Chassis, Request, LINE_ROOM, POOL_ROOM};
 use crate::events::{Event, Ordered};
@@ -9,7 +10,6 @@ use crate::journal::{value_length, HEAD_LENGTH};
 use crate::names::{Asked, Awaiting, Cards, Holder, Kind, Standing};
 use crate::refusal::Refusal;
 use crate::run::Seen;
-use crate::show::Many;
 use crate::table::{self, GETS, GETX, PUTX};
 
 /// Why a record has the answer that it has, where the answer itself does not

@@ -4,6 +4,7 @@
 
 use std::fmt::{self, Write};
 
+use crate::amounts::Many;
 use crate::events::Event;
 use crate::journal::{Reader, Record};
 use crate::names::Kind;
@@ -145,15 +146,5 @@ impl fmt::Display for Event {
             Event::Copy { position } => write!(out, "copy {position}"),
             Event::Rejoin { card } => write!(out, "rejoin card {card}"),
         }
-    }
-}
-
-/// A number of things, with `s` unless it is 1.
-pub(crate) struct Many(pub usize, pub &'static str);
-
-impl fmt::Display for Many {
-    fn fmt(&self, out: &mut fmt::Formatter<'_>) -> fmt::Result {
-        let plural = if self.0 == 1 { "" } else { "s" };
-        write!(out, "{} {}{plural}", self.0, self.1)
     }
 }

@@ -4,9 +4,9 @@
 
 use std::fmt;
 
+use crate::amounts::Many;
 use crate::chassis::{Chassis, MAX_BLOCKS};
 use crate::events::{Event, Ordered};
-use crate::show::Many;
 
 /// An accepted store.
 struct Store {

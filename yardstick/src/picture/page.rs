@@ -6,6 +6,7 @@ use std::fmt::Write;
 use super::numbers::numbers;
 use super::words::MEANINGS;
 use super::{Kind, Picture, Step};
+use crate::amounts::{Grouped, Many};
 use crate::refusal::Refusal;
 use crate::table;
 
@@ -82,35 +83,16 @@ fn summary(picture: &Picture) -> String {
     let refused = steps().filter(|step| step.line.answer.is_err());
     let counts = format!(
         "{}, {}, {}",
-        many(records.count(), "record"),
-        many(refused.count(), "refusal"),
-        many(picture.length, "byte"),
+        Many(records.count(), "record"),
+        Many(refused.count(), "refusal"),
+        Many(picture.length, "byte"),
     );
     let Some((cards, blocks)) = picture.sizes else {
         return format!("no chassis, {counts}");
     };
-    let cards = many(usize::from(cards), "card");
-    let blocks = many(usize::from(blocks), "block");
+    let cards = Many(usize::from(cards), "card");
+    let blocks = Many(usize::from(blocks), "block");
     format!("{cards}, {blocks}, {counts}")
-}
-
-/// How many there are of something.
-fn many(count: usize, of: &str) -> String {
-    let plural = if count == 1 { "" } else { "s" };
-    format!("{} {of}{plural}", grouped(count))
-}
-
-/// A number with a comma before each three digits, as the paper writes it.
-fn grouped(number: usize) -> String {
-    let digits = number.to_string();
-    let mut out = String::new();
-    for (at, digit) in digits.chars().enumerate() {
-        if at > 0 && (digits.len() - at).is_multiple_of(3) {
-            out.push(',');
-        }
-        out.push(digit);
-    }
-    out
 }
 
 /// What a reader should know first: the damage, and bytes that are not read.
@@ -129,9 +111,9 @@ fn notices(picture: &Picture) -> String {
 
 /// How much of the journal is read, and which record that cuts short, if any.
 fn unread_words(picture: &Picture) -> String {
-    let (read, length) = (grouped(picture.bytes), grouped(picture.length));
+    let (read, length) = (Grouped(picture.bytes), Grouped(picture.length));
     let cut = picture.cut_by_limit().map_or(String::new(), |step| {
-        let place = grouped(step.line.place);
+        let place = Grouped(step.line.place);
         format!("; the record at byte {place} is cut short by that")
     });
     format!("Only the first {read} of {length} bytes are read{cut}.")
@@ -143,9 +125,9 @@ fn end_words(picture: &Picture, step: &Step) -> Option<String> {
         return None;
     }
     let refusal = step.line.answer.err().filter(|no| no.ends_the_run())?;
-    let (number, place) = (grouped(step.line.number), grouped(step.line.place));
+    let (number, place) = (Grouped(step.line.number), Grouped(step.line.place));
     let text = &step.text;
-    let unrun = many(picture.bytes.saturating_sub(step.line.place), "byte");
+    let unrun = Many(picture.bytes.saturating_sub(step.line.place), "byte");
     Some(match (refusal, step.kind) {
         _ if picture.bytes == 0 => {
             format!("The journal is empty: it has no opening record ({refusal}).")

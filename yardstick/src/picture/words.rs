@@ -1,12 +1,12 @@
 //! A record and its answer in words, and the names of the states.
 
+use crate::amounts::Many;
 use crate::chassis::{Chassis, Message, Request, HOME};
 use crate::events::{Delivered, Event, Ordered};
 use crate::journal::Record;
 use crate::names::{Kind, State};
 use crate::reasons::reason;
 use crate::run::Seen;
-use crate::show::Many;
 use crate::stores::Struck;
 use crate::table::STATES;
 
