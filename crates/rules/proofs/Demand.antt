@@ -17,7 +17,7 @@ use Rattle.rules.specs.Order.{orderReasons}
 use Rattle.rules.specs.Formed.{wellFormed}
 use Rattle.rules.specs.Events.{noCard, noBlock, rightReasons, noMessage, reasons, effect, step}
 use Rattle.rules.specs.History.{Did, loaded, settles, quiet, headBlock, didAccepted, did, Run, run, written}
-use Rattle.rules.specs.Demand.{accepts, Coherent}
+use Rattle.rules.specs.Demand.{Coherent}
 use Rattle.rules.specs.Claims.{Demand-3}
 use Rattle.rules.specs.declared.kinds.Request.{Request}
 use Rattle.rules.specs.declared.kinds.Answer.{Answer}
@@ -34,7 +34,7 @@ use Rattle.rules.specs.declared.kinds.Event.the-variants.{
   Copy,
   Rejoin,
 }
-use Rattle.rules.proofs.Tests.{clash, cond-cases, false-if}
+use Rattle.rules.proofs.Tests.{clash, cond-cases}
 use Rattle.rules.proofs.Lists.{All-map}
 use Rattle.rules.proofs.Board.{pending, base, pick, current}
 use Rattle.rules.proofs.Invariant.{RequestOk, Inv}
@@ -42,7 +42,7 @@ use Rattle.rules.proofs.Blocks.{idle-ok, one-storer}
 use Rattle.rules.proofs.Holders.{held-not, possible, loader-only, load-current}
 use Rattle.rules.proofs.Stores.{LoadOk, Past, past-empty, past-more, struck-unseen}
 use Rattle.rules.proofs.Refusals.{
-  accepts-none,
+  accepted-none,
   None,
   refused-cases,
   effect-done,
@@ -158,13 +158,13 @@ never-ill-formed c w e = never-given c IllFormed _ (effect c e)
     (never-first 15 _ _ (λ p _. true≢false (sym p ∙ ap not w)) (λ _. reasons-formed c e)) (effect-done c e)
 
 -- a load or a store that would be accepted has its right
-load-right : (c : Chassis) (k b : ℕ) → accepts c (Load k b) ≡ true → loads (stateOf c k b) ≡ true
+load-right : (c : Chassis) (k b x : ℕ) → step c (Load k b) .answer ≡ Done x → loads (stateOf c k b) ≡ true
 unfolding reasons rightReasons
-load-right c k b h = not-false (loads (stateOf c k b)) (accepts-none c (Load k b) h .1 .1 .0)
+load-right c k b x h = not-false (loads (stateOf c k b)) (accepted-none c (Load k b) x h .1 .1 .0)
 
-store-right : (c : Chassis) (k b v : ℕ) → accepts c (Store k b v) ≡ true → stores (stateOf c k b) ≡ true
+store-right : (c : Chassis) (k b v x : ℕ) → step c (Store k b v) .answer ≡ Done x → stores (stateOf c k b) ≡ true
 unfolding reasons rightReasons
-store-right c k b v h = not-false (stores (stateOf c k b)) (accepts-none c (Store k b v) h .1 .1 .0)
+store-right c k b v x h = not-false (stores (stateOf c k b)) (accepted-none c (Store k b v) x h .1 .1 .0)
 
 -- Every run
 
@@ -189,9 +189,9 @@ coherent r g = record {
   loads-last = g .past .loads-last;
   struck-by-rejoin = g .past .struck-ok;
   struck-unseen = All-map struck-unseen (written (r .log)) (g .past .unseen);
-  one-storer = λ j k b v u ne h. let s = store-right (r .now) j b v h in (
-    false-if (λ q. ne (loader-only (g .inv .blocks-ok b) (g .inv .few) j k s (load-right (r .now) k b q))),
-    false-if (λ q. ne (one-storer (g .inv .blocks-ok b) j k s (store-right (r .now) k b u q))),
+  one-storer = λ j k b v u x y ne h. let s = store-right (r .now) j b v x h in (
+    (λ q. ne (loader-only (g .inv .blocks-ok b) (g .inv .few) j k s (load-right (r .now) k b y q))),
+    (λ q. ne (one-storer (g .inv .blocks-ok b) j k s (store-right (r .now) k b u y q))),
   );
   never-impossible = never-impossible (g .inv);
   never-ill-formed = never-ill-formed (r .now) (g .formed);

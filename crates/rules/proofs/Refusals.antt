@@ -1,6 +1,6 @@
 -- Refusals: what holds where an event is refused, and where none of its reasons holds.
 use Prim.Native.Nat.{ℕ}
-use mathlib.Core.Bool.{Bool, true, false, not, true≢false}
+use mathlib.Core.Bool.{Bool, true, false, not}
 use mathlib.Core.List.{List, [], _∷_}
 use mathlib.Core.Path.{_≡_, refl, sym, ap, subst}
 use mathlib.Core.Logic.{_≢_}
@@ -11,7 +11,6 @@ use Rattle.rules.specs.Chassis.{Chassis}
 use Rattle.rules.specs.Answers.{refusalNo, refusalOf, Result, result, Reason, refusedBy}
 use Rattle.rules.specs.Order.{order, orderHead}
 use Rattle.rules.specs.Events.{messageAt, live, deliver, reasons, effect, step}
-use Rattle.rules.specs.Demand.{isDone, accepts}
 use Rattle.rules.specs.Claims.{Refused-keeps}
 use Rattle.rules.specs.declared.kinds.Request.{Request}
 use Rattle.rules.specs.declared.kinds.Answer.{Answer}
@@ -72,10 +71,10 @@ refused-keeps c e r = refused-cases c (λ (o : Result). o .answer ≡ Refused r 
     (λ _ _. refl) (λ _ h. absurd (subst IsDone h (effect-done c e)))
 
 -- an event that would be accepted has no reason to be refused
-pub accepts-none : (c : Chassis) (e : Event) → accepts c e ≡ true → None (reasons c e)
-unfolding accepts step
-accepts-none c e = refused-cases c (λ (o : Result). isDone (o .answer) ≡ true → None (reasons c e)) _ (effect c e)
-    (λ _ h. absurd (true≢false (sym h))) (λ h _. h .1)
+pub accepted-none : (c : Chassis) (e : Event) (x : ℕ) → step c e .answer ≡ Done x → None (reasons c e)
+unfolding step
+accepted-none c e x = refused-cases c (λ (o : Result). o .answer ≡ Done x → None (reasons c e)) _ (effect c e)
+    (λ _ h. absurd (subst IsDone (sym h) tt)) (λ h _. h .1)
 
 -- A refusal that is never given
 

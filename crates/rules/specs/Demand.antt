@@ -1,12 +1,10 @@
 -- Demand 3, sentence by sentence; its last field says of 15 what the paper says of 13.
 use Prim.Native.Nat.{ℕ}
-use mathlib.Core.Bool.{Bool, true, false}
 use mathlib.Core.List.{List, [], _∷_, _++_}
 use mathlib.Core.Path.{_≡_}
 use mathlib.Core.Logic.{_≢_}
 use lib.ListN.{length}
 use Rattle.rules.specs.Lists.{All}
-use Rattle.rules.specs.Chassis.{Chassis}
 use Rattle.rules.specs.Events.{step}
 use Rattle.rules.specs.History.{
   Did,
@@ -21,7 +19,6 @@ use Rattle.rules.specs.History.{
   lastStore,
   written,
 }
-use Rattle.rules.specs.declared.kinds.Answer.{Answer}
 use Rattle.rules.specs.declared.kinds.Answer.the-variants.{Done, Refused}
 use Rattle.rules.specs.declared.kinds.Refusal.the-variants.{Impossible, IllFormed}
 use Rattle.rules.specs.declared.kinds.Event.{Event}
@@ -51,14 +48,6 @@ pub record StruckByRejoin (log : List Did) (w : Written) : Type 0 where
   pub at-rejoin : log ≡ later ++ rejoined (w .card) ∷ earlier
   pub not-settled : NotSettled earlier w
 
--- the event would be accepted
-abbrev pub isDone : Answer → Bool
-isDone (Done v) = true
-isDone (Refused r) = false
-
-unfoldable pub accepts : Chassis → Event → Bool
-accepts c e = isDone (step c e .answer)
-
 -- what the demand asks of a run
 pub record Coherent (r : Run) : Type 0 where
   -- "each accepted load returns the last earlier accepted store to its block that has not been struck by then, or 0"
@@ -68,8 +57,8 @@ pub record Coherent (r : Run) : Type 0 where
   -- "no other card ever loaded one": not before it was struck; and after, a load returns another store, by loads-last
   pub struck-unseen : All (λ w. w .fate ≡ struck → All (λ k. k ≡ w .card) (w .loaders)) (written (r .log))
   -- "While one card may store to a block, no other card may load or store it"
-  pub one-storer : (j k b v u : ℕ) → j ≢ k → accepts (r .now) (Store j b v) ≡ true
-      → (accepts (r .now) (Load k b) ≡ false) × (accepts (r .now) (Store k b u) ≡ false)
+  pub one-storer : (j k b v u x y : ℕ) → j ≢ k → step (r .now) (Store j b v) .answer ≡ Done x
+      → (step (r .now) (Load k b) .answer ≢ Done y) × (step (r .now) (Store k b u) .answer ≢ Done y)
   -- "The refusal for an impossible state is never given"
   pub never-impossible : (e : Event) → step (r .now) e .answer ≢ Refused Impossible
   -- nor is that for an ill formed one
