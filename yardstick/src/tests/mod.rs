@@ -20,7 +20,23 @@ mod words;
 
 use crate::chassis::Chassis;
 use crate::events::Event;
+use crate::generate::generate;
 use crate::journal::{Reader, Record};
+use crate::picked::picked_journals;
+
+/// How many seeds are drawn, sound and damaged.
+const SEEDS: u64 = 250;
+
+/// Checks the journals of many seeds, sound and damaged, and the stored ones.
+fn each_journal(check: impl Fn(&[u8])) {
+    for seed in 0..SEEDS {
+        check(&generate(seed, false));
+        check(&generate(seed, true));
+    }
+    for picked in picked_journals() {
+        check(&picked.journal);
+    }
+}
 
 /// The records of a journal up to its end or its damage.
 fn records(journal: &[u8]) -> Vec<Record> {

@@ -2,15 +2,12 @@
 
 use crate::chassis::{Cell, Chassis, HomeBlock, Message, OrderNumber, Request, Retry};
 use crate::generate::generate;
-use crate::picked::picked_journals;
 use crate::picture::{page, Picture};
 use crate::random::Random;
 use crate::replay::{replay, Replay, JOURNAL_LIMIT};
 use crate::script::{ask, copy, deliver, journal_of, order, rejoin, start, store};
 use crate::table::{self, GETX};
-
-/// How many seeds are drawn, sound and damaged.
-const SEEDS: u64 = 250;
+use crate::tests::each_journal;
 
 /// The page of a journal.
 fn page_of(journal: &[u8]) -> String {
@@ -112,13 +109,7 @@ fn check(journal: &[u8]) {
 
 #[test]
 fn the_data_gives_back_every_state() {
-    for seed in 0..SEEDS {
-        check(&generate(seed, false));
-        check(&generate(seed, true));
-    }
-    for picked in picked_journals() {
-        check(&picked.journal);
-    }
+    each_journal(check);
 }
 
 /// Copies look the same: the page is told which one was delivered.

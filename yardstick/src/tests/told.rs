@@ -2,12 +2,8 @@
 
 use crate::chassis::{Chassis, HomeBlock, Message, OrderNumber, Request, Retry};
 use crate::explain::{explain, Look};
-use crate::generate::generate;
-use crate::picked::picked_journals;
 use crate::replay::Replay;
-
-/// How many seeds are drawn, sound and damaged.
-const SEEDS: u64 = 250;
+use crate::tests::each_journal;
 
 /// The numbers of a text, in decimal.
 fn numbers(text: &str) -> Vec<u64> {
@@ -163,11 +159,5 @@ fn check(journal: &[u8]) {
 
 #[test]
 fn the_words_give_back_every_state() {
-    for seed in 0..SEEDS {
-        check(&generate(seed, false));
-        check(&generate(seed, true));
-    }
-    for picked in picked_journals() {
-        check(&picked.journal);
-    }
+    each_journal(check);
 }
