@@ -7,15 +7,15 @@ use Rattle.rules.specs.Chassis.{Chassis}
 use Rattle.rules.specs.Events.{step, start}
 use Rattle.rules.specs.History.{Did, did, Run, run}
 use Rattle.rules.specs.Demand.{Coherent}
-use Rattle.rules.specs.declared.kinds.Answer.{Answer}
-use Rattle.rules.specs.declared.kinds.Answer.the-variants.{Done, Refused}
-use Rattle.rules.specs.declared.kinds.Refusal.the-variants.{IllFormed}
-use Rattle.rules.specs.declared.kinds.Event.{Event}
-use Rattle.rules.proofs.Demand.{demand-3}
-use Rattle.engine.specs.Words.{words, view, formed}
+use Rattle.rules.specs.declared.Answer.{Answer}
+use Rattle.rules.specs.declared.Answer.the-variants.{Done, Refused}
+use Rattle.rules.specs.declared.Refusal.the-variants.{IllFormed}
+use Rattle.rules.specs.declared.Event.{Event}
+use Rattle.rules.proofs.Demand.{rules-coherent}
+use Rattle.words.specs.Words.{words, view, formed}
 use Rattle.engine.specs.Promise.{Answers}
 use Rattle.engine.specs.Calls.{Called, started, called, Calls-coherent}
-use Rattle.engine.proofs.Keeps.{Says, step-says, start-says}
+use Rattle.words.proofs.Keeps.{Sayable, step-says, start-says}
 
 -- the words and the log are those of a run from an accepted Start
 record Follows (w : List ℕ) (log : List Did) : Type 0 where
@@ -24,7 +24,7 @@ record Follows (w : List ℕ) (log : List Did) : Type 0 where
   value : ℕ
   accepted : start cards blocks .answer ≡ Done value
   events : List Event
-  says : Says (run (start cards blocks .after) events .now)
+  says : Sayable (run (start cards blocks .after) events .now)
   words-of : w ≡ words (run (start cards blocks .after) events .now)
   log-of : log ≡ run (start cards blocks .after) events .log
 
@@ -79,7 +79,7 @@ calls-coherent w log k =
     let f = follows k in
     let c : Coherent (record { now = view w; log = log })
     = subst Coherent (ap₂ (λ (x : Chassis) (l : List Did). record { now = x; log = l }) (sym (view-now f)) (sym (f .log-of)))
-    (demand-3 (f .cards) (f .blocks) (f .value) (f .accepted) (f .events)) in
+    (rules-coherent (f .cards) (f .blocks) (f .value) (f .accepted) (f .events)) in
     record {
       coherent = c;
       never-13-or-15 = λ e r w′ a. (

@@ -7,27 +7,28 @@ use mathlib.Core.Path.{_≡_, refl, sym, _∙_, ap}
 use mathlib.Core.Logic.{_≢_}
 use lib.Dec.{eqb, leb}
 use borrow.Author.Tests.{ne-eqb, ltb-true, eq-eqb, lt-ltb, le-leb, lt-leb}
-use Rattle.rules.specs.Tests.{_⇒_, any, all, some}
-use Rattle.rules.specs.Masks.{has}
+use Rattle.rules.specs.Tests.{any}
+use Rattle.rules.specs.Mask.{suffices}
 use Rattle.rules.specs.Numbers.{mostCards, mostBlocks, home, room, lastNumber, gets, putx}
 use Rattle.rules.specs.Table.{canGive, comesFrom, putStands}
 use Rattle.rules.specs.Chassis.{Block, idle, cellOf, unusedRequest}
 use Rattle.rules.specs.Formed.{homeOrCard, okRequest}
-use Rattle.rules.specs.Order.{held, impossible, noRoomFor, suffices, turn}
-use Rattle.rules.specs.declared.kinds.Request.{Request}
-use Rattle.engine.specs.declared.words.Home.{Home}
+use Rattle.rules.specs.Order.{held, impossible, noRoomFor, turn}
+use Rattle.rules.specs.declared.OrderNo.{OrderNo}
+use Rattle.rules.specs.declared.Request.{Request}
+use Rattle.rules.specs.declared.Home.{Home}
 use lib.ListN.{getD}
-use Rattle.rules.specs.declared.kinds.Cell.{Cell}
-use Rattle.rules.specs.declared.kinds.Turn.{Turn}
-use Rattle.rules.specs.declared.kinds.Refusal.the-variants.{BlockHeld, PoolFull, NumbersSpent, Impossible}
+use Rattle.rules.specs.declared.Cell.{Cell}
+use Rattle.rules.specs.declared.Turn.{Turn}
+use Rattle.rules.specs.declared.Refusal.the-variants.{BlockHeld, PoolFull, NumbersSpent, Impossible}
 use Rattle.engine.specs.declared.judge.Judged.{Judged}
 use Rattle.engine.specs.declared.judge.Judged.the-variants.{No, Yes}
-use Rattle.rules.specs.declared.kinds.Turn.the-variants.{GetsGranted, GetxGranted, GetsMissed, GetxMissed, PutTaken, PutLapsed}
+use Rattle.rules.specs.declared.Turn.the-variants.{GetsGranted, GetxGranted, GetsMissed, GetxMissed, PutTaken, PutLapsed}
 use Rattle.rules.proofs.Tests.{or-i}
 use Rattle.rules.proofs.Lists.{All-at}
 use Rattle.rules.proofs.Formed.{RequestWf, request→, BlockWf}
-use Rattle.engine.proofs.Does.{wf, sizes}
-use Rattle.engine.specs.Words.{
+use Rattle.words.proofs.Does.{wf, sizes}
+use Rattle.words.specs.Words.{
   view,
   blockOf,
   cardsOf,
@@ -41,49 +42,15 @@ use Rattle.engine.specs.Words.{
   sharersAt,
   formed,
 }
-use Rattle.engine.specs.Ordering.{HomeIs, sharersNamed, judgedFree, judged}
-use Rattle.engine.proofs.View.{view-block, view-cell, view-request, waiting-is, pooled-is}
-
--- The tests that walk the cards
-
--- the code's test of one sharer
-pub named-test : (a a′ b c c′ : Bool) → a ≡ a′ → c ≡ c′ → (not a || b || c) ≡ (a′ ⇒ b || c′)
-named-test a a′ b c c′ e f = rw (e, f) (go a′)
-  where
-    go : (t : Bool) → (not t || b || c′) ≡ (t ⇒ b || c′)
-    go true = refl
-    go false = refl
+use Rattle.words.specs.Inner.Parts.{HomeIs}
+use Rattle.engine.specs.Inner.Ordering.{judgedFree, judged}
+use Rattle.words.proofs.View.{view-block, view-cell, view-request, waiting-is, pooled-is}
 
 -- The owner
-
--- an owner that is not home is a card
-pub owner-card : (owner : ℕ) → owner ≢ home → homeOrCard mostCards owner ≡ true → owner < mostCards
-unfolding homeOrCard
-owner-card owner n h = ltb-true owner mostCards (rw (ne-eqb owner home n) at h)
 
 -- at home's number a chassis that words say has an idle cell
 pub home-cell : (w : List ℕ) (b owner : ℕ) → owner ≡ home → b < mostBlocks → idle ≡ view w .block b .cell owner
 home-cell w b owner e h = ap (λ k. blockOf w b .cell k) (sym e) ∙ sym (ap (λ (B : Block). B .cell owner) (view-block w b h))
-
--- The mask test
-
-module _ (cards : ℕ) (h : Home) (r : Request) (B : Block) (is : HomeIs B h) (named : Bool)
-    (e : named ≡ (eqb (h .owner) home || has (r .mask) (h .owner))) where
-  owner-named : (eqb (B .owner) home || has (r .mask) (B .owner)) ≡ named
-  owner-named = ap (λ o. eqb o home || has (r .mask) o) (is .owner) ∙ sym e
-
-  pub owner-missed : named ≡ false → false ≡ suffices cards B r
-  unfolding suffices
-  owner-missed n = rw (owner-named, n)
-
-  pub gets-suffices : named ≡ true → r .kind ≡ gets → true ≡ suffices cards B r
-  unfolding suffices
-  gets-suffices n g = rw (owner-named, n, eq-eqb (r .kind) gets g)
-
-  pub getx-suffices : named ≡ true → r .kind ≢ gets → (t : Bool) → t ≡ sharersNamed cards (h .sharers) r → t ≡ suffices cards B r
-  unfolding suffices sharersNamed
-  getx-suffices n g t k = rw (owner-named, n, ne-eqb (r .kind) gets g)
-      (k ∙ ap (λ s. all cards (λ k. has s k ⇒ eqb k (r .card) || has (r .mask) k)) (sym (is .sharers)))
 
 -- Impossible
 
@@ -144,7 +111,7 @@ module _ (w : List ℕ) (f : formed w ≡ true) (some : 0 < waitingOf w) (r : Re
   head-block = let b = head-wf .block in let s = sizes w f .few-blocks in omega arith
 
   -- and so is its block
-  pub block-wf : BlockWf (view w .cards) (view w .last .0) (view w .block (r .block))
+  pub block-wf : BlockWf (view w .cards) (view w .last) (view w .block (r .block))
   block-wf = wf w f .used (r .block) head-block (head-wf .block)
 
   -- home's part of the block, as it is read
@@ -207,15 +174,18 @@ module _ (w : List ℕ) (f : formed w ≡ true) (some : 0 < waitingOf w) (r : Re
 
   -- Refusals 12 and 9 come first
 
-  pub numbers-spent : (n : ℕ) → n ≡ lastOf w → lastNumber ≤ n → No NumbersSpent ≡ judged (view w) r
-  unfolding judged view
-  numbers-spent n e s = rw (le-leb lastNumber (lastOf w) (omega arith))
+  number-is : (n : OrderNo) → n ≡ lastOf w → n .0 ≡ lastOf w .0
+  number-is n e = ap (λ (m : OrderNo). m .0) e
 
-  module _ (n : ℕ) (e : n ≡ lastOf w) (u : n < lastNumber) (i : Bool) (ei : i ≡ held (cardsOf w) (view w .block (r .block))) where
+  pub numbers-spent : (n : OrderNo) → n ≡ lastOf w → lastNumber .0 ≤ n .0 → No NumbersSpent ≡ judged (view w) r
+  unfolding judged view
+  numbers-spent n e s = let i = number-is n e in rw (le-leb (lastNumber .0) (lastOf w .0) (omega arith))
+
+  module _ (n : OrderNo) (e : n ≡ lastOf w) (u : n .0 < lastNumber .0) (i : Bool) (ei : i ≡ held (cardsOf w) (view w .block (r .block))) where
     pub block-held : i ≡ true → No BlockHeld ≡ judged (view w) r
     unfolding judged view
-    block-held t = rw (lt-leb lastNumber (lastOf w) (omega arith), ← ei, t)
+    block-held t = let z = number-is n e in rw (lt-leb (lastNumber .0) (lastOf w .0) (omega arith), ← ei, t)
 
     pub block-free : i ≡ false → (j : Judged) → j ≡ judgedFree (view w) r → j ≡ judged (view w) r
     unfolding judged view
-    block-free t j ej = rw (lt-leb lastNumber (lastOf w) (omega arith), ← ei, t) ej
+    block-free t j ej = let z = number-is n e in rw (lt-leb (lastNumber .0) (lastOf w .0) (omega arith), ← ei, t) ej

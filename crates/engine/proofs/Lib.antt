@@ -1,24 +1,11 @@
--- The proofs: laws of rows and words from the bottom up, then each event's ways to end.
-pub mod Rows
-pub mod Image
-pub mod View
-pub mod Closing
-pub mod Changes
-pub mod Checks
-pub mod Same
-pub mod Tested
-pub mod Does
-pub mod Keeps
+-- The proofs: each event's ways to end, then runs over a journal and calls in a row.
+pub mod Promised
 pub mod Rights
 pub mod Asked
-pub mod Pooled
-pub mod Rejoined
 pub mod Judging
-pub mod Seeing
-pub mod Turned
 pub mod Ordered
-pub mod Started
 pub mod Told
 pub mod Went
 pub mod Joined
 pub mod Calls
+pub mod Marked

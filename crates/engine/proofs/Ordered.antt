@@ -9,48 +9,57 @@ use mathlib.Core.Logic.{_≢_, inl, inr}
 use lib.ListN.{length, getD, set}
 use lib.Dec.{eqb, leb, ltb}
 use borrow.Author.Tests.{leb-false, ltb-true, ltb-false}
+use Rattle.rules.specs.Answers.{FirstHolds, NoneHolds}
 use Rattle.rules.specs.Lists.{removed}
-use Rattle.rules.specs.Numbers.{mostCards, room, lastNumber, putx}
+use Rattle.rules.specs.Numbers.{mostCards, room, orderNo, lastNumber, nextNumber, upToNumber, putx, granted}
 use Rattle.rules.specs.Table.{putStands}
-use Rattle.rules.specs.Chassis.{Block, Chassis, idle, cellOf, changed, poolChanged, unusedRequest}
+use Rattle.rules.specs.Chassis.{
+  Block,
+  Chassis,
+  aMessage,
+  idle,
+  cellOf,
+  withHome,
+  changed,
+  blocksChanged,
+  blockChanged,
+  lineChanged,
+  poolChanged,
+  unusedRequest,
+}
 use Rattle.rules.specs.Order.{
   held,
   impossible,
   noRoomFor,
   orderReasons,
   turn,
-  outcomeNo,
   given,
-  memoryAfter,
-  ownerAfter,
-  sharersAfter,
+  upshotOf,
   sees,
   ordered,
   dataFor,
-  sent,
-  again,
   orderHead,
   order,
 }
 use Rattle.rules.specs.Events.{reasons, effect}
-use Rattle.rules.specs.declared.kinds.Cell.{Cell}
-use Rattle.rules.specs.declared.kinds.Request.{Request}
-use Rattle.rules.specs.declared.kinds.Message.{Message}
-use Rattle.rules.specs.declared.kinds.Turn.{Turn}
-use Rattle.rules.specs.declared.kinds.Answer.the-variants.{Done, Refused}
-use Rattle.rules.specs.declared.kinds.Refusal.{Refusal}
-use Rattle.rules.specs.declared.kinds.Refusal.the-variants.{LineEmpty}
-use Rattle.rules.specs.declared.kinds.Turn.the-variants.{PutLapsed}
-use Rattle.rules.specs.declared.kinds.Event.the-variants.{Order}
+use Rattle.rules.specs.declared.OrderNo.{OrderNo}
+use Rattle.rules.specs.declared.Cell.{Cell}
+use Rattle.rules.specs.declared.Request.{Request}
+use Rattle.rules.specs.declared.Message.{Message}
+use Rattle.rules.specs.declared.Turn.{Turn}
+use Rattle.rules.specs.declared.Answer.the-variants.{Done, Refused}
+use Rattle.rules.specs.declared.Refusal.{Refusal}
+use Rattle.rules.specs.declared.Refusal.the-variants.{LineEmpty}
+use Rattle.rules.specs.declared.Turn.the-variants.{PutLapsed}
+use Rattle.rules.specs.declared.Event.the-variants.{Order}
 use Rattle.rules.proofs.Tests.{test}
 use Rattle.rules.proofs.Lists.{replace-same, replace-twice}
-use Rattle.rules.proofs.Refusals.{None}
 use Rattle.rules.proofs.Turns.{sees-cases}
 use Rattle.rules.proofs.Formed.{unused-idle}
 use Rattle.engine.specs.declared.judge.Judged.{Judged}
 use Rattle.engine.specs.declared.judge.Judged.the-variants.{No, Yes}
-use Rattle.engine.specs.declared.words.Home.{Home}
-use Rattle.engine.specs.Words.{
+use Rattle.rules.specs.declared.Home.{Home}
+use Rattle.words.specs.Words.{
   words,
   view,
   cardsOf,
@@ -64,14 +73,16 @@ use Rattle.engine.specs.Words.{
   requestAt,
   formed,
 }
-use Rattle.engine.specs.Parts.{Does, CellFits, putHome, lineChanged}
-use Rattle.engine.specs.Ordering.{HomeIs, judgedFree, judged, blockChanged, seenBelow, grants}
-use Rattle.engine.proofs.View.{formed-words, view-block, view-cell, waiting-is, cards-of, waiting-of, pooled-of}
-use Rattle.engine.proofs.Changes.{home-words, last-words}
-use Rattle.engine.proofs.Does.{Refuses, refused, done, sizes}
-use Rattle.engine.proofs.Keeps.{owner-moves, reader-moves}
+use Rattle.words.specs.Layout.{lastAt}
+use Rattle.words.specs.Claims.{CellFits}
+use Rattle.words.specs.Inner.Parts.{Does, HomeIs, HomeAfter, seenBelow, putHome}
+use Rattle.engine.specs.Inner.Ordering.{judgedFree, judged}
+use Rattle.words.proofs.View.{formed-words, view-block, view-cell, waiting-is, cards-of, waiting-of, pooled-of}
+use Rattle.words.proofs.Changes.{home-words, last-words}
+use Rattle.words.proofs.Does.{refused, done, sizes}
+use Rattle.words.proofs.Keeps.{owner-moves, reader-moves}
 use Rattle.engine.proofs.Judging.{head-is, head-wf, head-block, home-is, owner-is, asker-is, block-wf}
-use Rattle.engine.proofs.Seeing.{Seen, withBlocks}
+use Rattle.words.proofs.Seeing.{Seen}
 
 -- What was decided, and the rules' reasons
 
@@ -91,9 +102,9 @@ no≢yes : (x : Refusal) (t : Turn) → No x ≢ Yes t
 no≢yes x t e = subst IsNo e tt
 
 module _ (c : Chassis) (r : Request) (rest : List Request) where
-  judged-no : (x : Refusal) → No x ≡ judged c r → Refuses (orderReasons c (r ∷ rest)) x
+  judged-no : (x : Refusal) → No x ≡ judged c r → FirstHolds (orderReasons c (r ∷ rest)) x
   unfolding judged judgedFree orderReasons
-  judged-no x e = test (leb lastNumber (c .last .0))
+  judged-no x e = test (upToNumber lastNumber (c .last))
       (λ p. inl (p, ap why (sym (rw p at e))))
       (λ p. inr (
         p,
@@ -113,9 +124,9 @@ module _ (c : Chassis) (r : Request) (rest : List Request) where
       ))
 
   judged-yes : (t : Turn) → Yes t ≡ judged c r
-      → None (orderReasons c (r ∷ rest)) × (t ≡ turn (c .cards) (c .block (r .block)) r)
+      → NoneHolds (orderReasons c (r ∷ rest)) × (t ≡ turn (c .cards) (c .block (r .block)) r)
   unfolding judged judgedFree orderReasons
-  judged-yes t e = test (leb lastNumber (c .last .0))
+  judged-yes t e = test (upToNumber lastNumber (c .last))
       (λ p. absurd (no≢yes _ _ (sym (rw p at e))))
       (λ p. test (held (c .cards) (c .block (r .block)))
       (λ q. absurd (no≢yes _ _ (sym (rw (p, q) at e))))
@@ -125,17 +136,13 @@ module _ (c : Chassis) (r : Request) (rest : List Request) where
       (λ f. absurd (no≢yes _ _ (sym (rw (p, q, i, f) at e))))
       (λ f. ((p, (q, (i, (f, tt)))), ap turned (rw (p, q, i, f) at e))))))
 
--- a block by its parts
-abbrev homed : ℕ → ℕ → ℕ → (ℕ → Cell) → Block
-homed memory owner sharers cell = record { memory = memory; owner = owner; sharers = sharers; cell = cell }
-
 -- a grant is none of a put
-grant-no-put : (cards : ℕ) (B : Block) (r : Request) → grants (turn cards B r) ≡ true → eqb (r .kind) putx ≡ false
-unfolding turn
+grant-no-put : (cards : ℕ) (B : Block) (r : Request) → upshotOf (turn cards B r) .outcome ≡ granted → eqb (r .kind) putx ≡ false
+unfolding turn upshotOf
 grant-no-put cards B r h = test (eqb (r .kind) putx)
     (λ e. test (putStands (B .cell (r .card) .state))
-    (λ s. absurd (true≢false (sym (rw (e, s) at h))))
-    (λ s. absurd (true≢false (sym (rw (e, s) at h)))))
+    (λ s. absurd (let g = rw (e, s) at h in omega arith))
+    (λ s. absurd (let g = rw (e, s) at h in omega arith)))
     (λ e. e)
 
 -- a list that is not empty has a head
@@ -153,7 +160,7 @@ nothing (x ∷ l) h = absurd (omega arith)
 pub line-empty : (w : List ℕ) → formed w ≡ true → waitingOf w ≡ 0 → Does w Order (Refused LineEmpty) w
 unfolding reasons orderReasons
 line-empty w f e = refused w f Order LineEmpty
-    (subst (λ (l : List Request). Refuses (orderReasons (view w) l) LineEmpty) (sym (nothing (view w .line) (waiting-is w ∙ e))) (inl (refl, refl)))
+    (subst (λ (l : List Request). FirstHolds (orderReasons (view w) l) LineEmpty) (sym (nothing (view w .line) (waiting-is w ∙ e))) (inl (refl, refl)))
 
 -- a number that is read and is not 0
 pub some-wait : (k n : ℕ) → n ≡ k → n ≢ 0 → 0 < k
@@ -171,18 +178,18 @@ module _ (w : List ℕ) (f : formed w ≡ true) (some : 0 < waitingOf w) (r : Re
   pub head-refused : (x : Refusal) → No x ≡ judged (view w) r → Does w Order (Refused x) w
   unfolding reasons
   head-refused x e = refused w f Order x
-      (subst (λ (l : List Request). Refuses (orderReasons (view w) l) x) (sym head-line) (judged-no (view w) r rest x e))
+      (subst (λ (l : List Request). FirstHolds (orderReasons (view w) l) x) (sym head-line) (judged-no (view w) r rest x e))
 
   -- The turn
 
   module _ (t : Turn) (et : Yes t ≡ judged (view w) r) where
-    decided : None (orderReasons (view w) (r ∷ rest)) × (t ≡ turn (view w .cards) (view w .block (r .block)) r)
+    decided : NoneHolds (orderReasons (view w) (r ∷ rest)) × (t ≡ turn (view w .cards) (view w .block (r .block)) r)
     decided = judged-yes (view w) r rest t et
 
     -- there is a next number
-    pub number-left : lastOf w < lastNumber
+    pub number-left : lastOf w .0 < lastNumber .0
     unfolding orderReasons view
-    number-left = leb-false lastNumber (lastOf w) (decided .0 .0)
+    number-left = leb-false (lastNumber .0) (lastOf w .0) (decided .0 .0)
 
     -- the cells of the block fit their words, as all that is said by words does
     cells-fit : (k : ℕ) → k < mostCards → CellFits (cellOf (view w) k (r .block))
@@ -194,7 +201,7 @@ module _ (w : List ℕ) (f : formed w ≡ true) (some : 0 < waitingOf w) (r : Re
         (λ e. ap (λ (B : Block). B .cell k) (view-block w (r .block) (head-block w f some r at)) ∙ rw e)
 
     -- where no card is, nothing is seen
-    seen-cells : (n : ℕ) → seenBelow (view w .cards) t (view w .block (r .block)) r n .cell ≡ sees t (view w .block (r .block)) r n
+    seen-cells : (n : OrderNo) → seenBelow (view w .cards) t (view w .block (r .block)) r n .cell ≡ sees t (view w .block (r .block)) r n
     seen-cells n = fun-ext (λ k. test (ltb k (view w .cards)) (λ e. rw e) (λ e. rw e
         (let i = idle-beyond k (ltb-false k (view w .cards) e) in
         let B = view w .block (r .block) in
@@ -208,9 +215,9 @@ module _ (w : List ℕ) (f : formed w ≡ true) (some : 0 < waitingOf w) (r : Re
     module _ (h : Home) (is : (h .memory ≡ memoryAt w (r .block)) × (h .owner ≡ ownerAt w (r .block)) × (h .sharers ≡ sharersAt w (r .block)))
         (x : Cell) (ex : x ≡ cellAt w (r .card) (r .block)) (y : Cell) (ey : y ≡ view w .block (r .block) .cell (h .owner))
         (g : ℕ) (eg : (B : Block) → HomeIs B h → B .cell (B .owner) ≡ y → g ≡ given B)
-        (n : ℕ) (w₁ : List ℕ) (e₁ : Seen w t n r (h .owner) w₁ (λ c. c .cards))
+        (n : OrderNo) (w₁ : List ℕ) (e₁ : Seen w t n r (h .owner) w₁ (λ c. c .cards))
         (h′ : Home) (eh : (B : Block) → HomeIs B h → B .cell (r .card) .value ≡ x .value → given B ≡ g
-        → (h′ .memory ≡ memoryAfter t B (r .card)) × (h′ .owner ≡ ownerAfter t B (r .card)) × (h′ .sharers ≡ sharersAfter t B (r .card)))
+        → HomeAfter t B (r .card) h′)
         (w₂ : List ℕ) (e₂ : w₂ ≡ putHome w₁ (r .block) (h′ .memory) (h′ .owner) (h′ .sharers)) where
       read : HomeIs (view w .block (r .block)) h
       read = home-is w f some r at h is
@@ -229,35 +236,35 @@ module _ (w : List ℕ) (f : formed w ≡ true) (some : 0 < waitingOf w) (r : Re
           let c₁ = blockChanged c b B₁ in
           let now = eh B read (ap (λ (z : Cell). z .value) (asker-is w f some r at x ex)) (sym gives) in
           e₂ ∙ home-words c₁ w₁ (e₁ c (formed-words w f) cells-fit (read .owner)) b _ _ _ (head-block w f some r at)
-          ∙ ap (λ (C : Block). words (blockChanged c₁ b (homed (h′ .memory) (h′ .owner) (h′ .sharers) (C .cell)))) (replace-same (c .block) b B₁)
-          ∙ ap (λ (g : ℕ → Block). words (withBlocks c g)) (replace-twice (c .block) b B₁ (homed (h′ .memory) (h′ .owner) (h′ .sharers) (B₁ .cell)))
-          ∙ rw (now .0, now .1, now .2, seen-cells n)
+          ∙ ap (λ (C : Block). words (blockChanged c₁ b (withHome C (h′ .memory) (h′ .owner) (h′ .sharers)))) (replace-same (c .block) b B₁)
+          ∙ ap (λ (g : ℕ → Block). words (blocksChanged c g)) (replace-twice (c .block) b B₁ (withHome B₁ (h′ .memory) (h′ .owner) (h′ .sharers)))
+          ∙ rw (now .memory, now .owner, now .sharers, seen-cells n)
 
       c₂ : Chassis
       c₂ = blockChanged (view w) (r .block) (ordered t (view w .block (r .block)) r n)
 
       -- a grant finds room in the pool
-      pub grant-room : grants t ≡ true → pooledOf w₂ < room
+      pub grant-room : upshotOf t .outcome ≡ granted → pooledOf w₂ < room
       unfolding c₂ orderReasons noRoomFor
       grant-room g =
           let p = pooled-of c₂ w₂ block-words in
-          let k = grant-no-put (view w .cards) (view w .block (r .block)) r (ap grants (sym (decided .1)) ∙ g) in
+          let k = grant-no-put (view w .cards) (view w .block (r .block)) r (ap (λ t. upshotOf t .outcome) (sym (decided .1)) ∙ g) in
           let l = leb-false room (length (view w .pool)) (rw k at (decided .0 .1 .1 .1 .0)) in
           omega arith
 
       -- the message that a grant puts in the pool
       abbrev message : Message
-      message = record { sender = h .owner; receiver = r .card; block = r .block; value = g; number = record { 0 = n } }
+      message = aMessage (h .owner) (r .card) (r .block) g n
 
       data-is : dataFor (view w .block (r .block)) r n ≡ message
       unfolding dataFor
       data-is = rw (read .owner, gives)
 
-      module _ (w₃ : List ℕ) (e₃ : (c : Chassis) (B : Block) → w₂ ≡ words c → ((r : Request) (n : ℕ) → dataFor B r n ≡ message
-          → w₃ ≡ words (poolChanged c (c .pool ++ sent t B r n)))) where
+      module _ (w₃ : List ℕ) (e₃ : (c : Chassis) (B : Block) → w₂ ≡ words c → ((r : Request) (n : OrderNo) → dataFor B r n ≡ message
+          → w₃ ≡ words (poolChanged c (c .pool ++ upshotOf t .sent B r n)))) where
         c₃ : Chassis
         unfolding c₂
-        c₃ = poolChanged c₂ (view w .pool ++ sent t (view w .block (r .block)) r n)
+        c₃ = poolChanged c₂ (view w .pool ++ upshotOf t .sent (view w .block (r .block)) r n)
 
         pool-words : w₃ ≡ words c₃
         unfolding c₂ c₃
@@ -276,29 +283,29 @@ module _ (w : List ℕ) (f : formed w ≡ true) (some : 0 < waitingOf w) (r : Re
         said = (c₃, pool-words)
 
         module _ (w₄ : List ℕ) (e₄ : (c : Chassis) (B : Block) → w₃ ≡ words c → HomeIs B h
-            → w₄ ≡ words (lineChanged c (removed 0 (c .line) ++ again t (c .cards) B r)))
-            (w₅ : List ℕ) (e₅ : w₅ ≡ set w₄ 4 n) (en : n ≡ lastOf w + 1) where
-          next : n ≡ suc (view w .last .0)
+            → w₄ ≡ words (lineChanged c (removed 0 (c .line) ++ upshotOf t .again (c .cards) B r)))
+            (w₅ : List ℕ) (e₅ : w₅ ≡ set w₄ lastAt (n .0)) (en : n ≡ orderNo (lastOf w .0 + 1)) where
+          next : n ≡ nextNumber (view w .last)
           unfolding view
-          next = en ∙ add-one (lastOf w)
+          next = en ∙ ap orderNo (add-one (lastOf w .0))
 
           -- the words after turn t under number n
-          gone : Turn → ℕ → List ℕ
+          gone : Turn → OrderNo → List ℕ
           gone t n =
               let c = view w in
               let B = c .block (r .block) in
-              words (changed c (r .block) (ordered t B r n) (rest ++ again t (c .cards) B r) (c .pool ++ sent t B r n) n)
+              words (changed c (r .block) (ordered t B r n) (rest ++ upshotOf t .again (c .cards) B r) (c .pool ++ upshotOf t .sent B r n) n)
 
-          pub order-done : (v : ℕ) → v ≡ outcomeNo t → Does w Order (Done v) w₅
+          pub order-done : (v : ℕ) → v ≡ upshotOf t .outcome → Does w Order (Done v) w₅
           unfolding c₂ c₃ rest gone reasons effect order orderHead
           order-done v ev =
               let c = view w in
               let B = c .block (r .block) in
-              let c₄ = lineChanged c₃ (rest ++ again t (c .cards) B r) in
+              let c₄ = lineChanged c₃ (rest ++ upshotOf t .again (c .cards) B r) in
               let after : w₅ ≡ gone t n =
               e₅ ∙ last-words c₄ w₄ (e₄ c₃ B pool-words read) n in
               done w f Order (Done v) w₅
-              (subst (λ (l : List Request). None (orderReasons c l)) (sym head-line) (decided .0))
-              (subst (λ (l : List Request). Done v ≡ order c l .answer) (sym head-line) (ap Done (ev ∙ ap outcomeNo (decided .1))))
+              (subst (λ (l : List Request). NoneHolds (orderReasons c l)) (sym head-line) (decided .0))
+              (subst (λ (l : List Request). Done v ≡ order c l .answer) (sym head-line) (ap Done (ev ∙ ap (λ t. upshotOf t .outcome) (decided .1))))
               (subst (λ (l : List Request). w₅ ≡ words (order c l .after)) (sym head-line)
               (after ∙ ap (λ (t : Turn). gone t n) (decided .1) ∙ ap (gone (turn (c .cards) B r)) next))

@@ -9,26 +9,25 @@ use lib.Dec.{leb}
 use borrow.Author.Tests.{leb-false}
 use Rattle.rules.specs.Numbers.{mostCards, mostBlocks}
 use Rattle.rules.specs.Table.{loads, stores, drops}
-use Rattle.rules.specs.Chassis.{cellOf, stateOf, idle, cellChanged}
-use Rattle.rules.specs.Answers.{Result, result, Reason}
-use Rattle.rules.specs.Events.{noCard, noBlock, rightReasons, reasons, storing, effect}
-use Rattle.rules.specs.declared.kinds.Cell.{Cell}
-use Rattle.rules.specs.declared.kinds.Answer.{Answer}
-use Rattle.rules.specs.declared.kinds.Answer.the-variants.{Done, Refused}
-use Rattle.rules.specs.declared.kinds.Refusal.{Refusal}
-use Rattle.rules.specs.declared.kinds.Refusal.the-variants.{NoRight}
-use Rattle.rules.specs.declared.kinds.Event.{Event}
-use Rattle.rules.specs.declared.kinds.Event.the-variants.{Load, Store, Drop}
+use Rattle.rules.specs.Chassis.{cellOf, stateOf, idle, storing, cellChanged}
+use Rattle.rules.specs.Answers.{Result, result, Reason, FirstHolds, NoneHolds}
+use Rattle.rules.specs.Events.{noCard, noBlock, rightReasons, reasons, effect}
+use Rattle.rules.specs.declared.Cell.{Cell}
+use Rattle.rules.specs.declared.Answer.{Answer}
+use Rattle.rules.specs.declared.Answer.the-variants.{Done, Refused}
+use Rattle.rules.specs.declared.Refusal.{Refusal}
+use Rattle.rules.specs.declared.Refusal.the-variants.{NoRight}
+use Rattle.rules.specs.declared.Event.{Event}
+use Rattle.rules.specs.declared.Event.the-variants.{Load, Store, Drop}
 use Rattle.rules.proofs.Tests.{test}
-use Rattle.rules.proofs.Refusals.{None}
-use Rattle.engine.specs.declared.cells.Found.{Found}
-use Rattle.engine.specs.declared.cells.Found.the-variants.{There, Missing}
-use Rattle.engine.specs.Words.{words, view, cardsOf, blocksOf, formed}
-use Rattle.engine.specs.Parts.{Does, putCell}
-use Rattle.engine.specs.Found.{found}
-use Rattle.engine.proofs.View.{formed-words, view-cell}
-use Rattle.engine.proofs.Changes.{cell-words}
-use Rattle.engine.proofs.Does.{Refuses, sizes, refused, done}
+use Rattle.engine.specs.declared.cells.Sought.{Sought}
+use Rattle.engine.specs.declared.cells.Sought.the-variants.{There, Missing}
+use Rattle.words.specs.Words.{words, view, cardsOf, blocksOf, formed}
+use Rattle.words.specs.Inner.Parts.{Does, putCell}
+use Rattle.engine.specs.Inner.Sought.{sought}
+use Rattle.words.proofs.View.{formed-words, view-cell}
+use Rattle.words.proofs.Changes.{cell-words}
+use Rattle.words.proofs.Does.{sizes, refused, done}
 
 -- A cell that was looked up
 
@@ -41,12 +40,12 @@ pub record Known (w : List ℕ) (k b : ℕ) (x : Cell) : Type 0 where
   pub cell : cellOf (view w) k b ≡ x
 
 -- what a look-up says: a refusal is 1 or 2, and else the cell is known
-Says : List ℕ → ℕ → ℕ → List Reason → Found → Type 0
-Says w k b rs (There x) = Known w k b x
-Says w k b rs (Missing x) = Refuses (noCard (view w) k ∷ noBlock (view w) b ∷ rs) x
+Named : List ℕ → ℕ → ℕ → List Reason → Sought → Type 0
+Named w k b rs (There x) = Known w k b x
+Named w k b rs (Missing x) = FirstHolds (noCard (view w) k ∷ noBlock (view w) b ∷ rs) x
 
-says : (w : List ℕ) → formed w ≡ true → (k b : ℕ) (rs : List Reason) → Says w k b rs (found w k b)
-unfolding Says found view noCard noBlock
+says : (w : List ℕ) → formed w ≡ true → (k b : ℕ) (rs : List Reason) → Named w k b rs (sought w k b)
+unfolding Named sought view noCard noBlock
 says w f k b rs = test (leb (cardsOf w) k)
     (λ p. rw p (inl (p, refl)))
     (λ p. test (leb (blocksOf w) b)
@@ -62,19 +61,19 @@ says w f k b rs = test (leb (cardsOf w) k)
     record { card = p; block = q; card< = k<; block< = b<; cell = view-cell w k b k< b< })))
 
 module _ (w : List ℕ) (f : formed w ≡ true) (k b : ℕ) where
-  pub known : (x : Cell) → There x ≡ found w k b → Known w k b x
-  unfolding Says
-  known x e = subst (Says w k b []) (sym e) (says w f k b [])
+  pub known : (x : Cell) → There x ≡ sought w k b → Known w k b x
+  unfolding Named
+  known x e = subst (Named w k b []) (sym e) (says w f k b [])
 
   pub missing : (e : Event) (rs : List Reason) (x : Refusal) → reasons (view w) e ≡ noCard (view w) k ∷ noBlock (view w) b ∷ rs
-      → Missing x ≡ found w k b → Does w e (Refused x) w
-  unfolding Says
-  missing e rs x is h = refused w f e x (subst (λ l. Refuses l x) (sym is) (subst (Says w k b rs) (sym h) (says w f k b rs)))
+      → Missing x ≡ sought w k b → Does w e (Refused x) w
+  unfolding Named
+  missing e rs x is h = refused w f e x (subst (λ l. FirstHolds l x) (sym is) (subst (Named w k b rs) (sym h) (says w f k b rs)))
 
 -- An event that asks for a right
 
 module _ (w : List ℕ) (f : formed w ≡ true) (e : Event) (k b : ℕ) (right : ℕ → Bool)
-    (is : reasons (view w) e ≡ rightReasons (view w) k b right) (x : Cell) (at : There x ≡ found w k b) where
+    (is : reasons (view w) e ≡ rightReasons (view w) k b right) (x : Cell) (at : There x ≡ sought w k b) where
   state-is : stateOf (view w) k b ≡ x .state
   state-is = ap (λ (y : Cell). y .state) (known w f k b x at .cell)
 
@@ -82,7 +81,7 @@ module _ (w : List ℕ) (f : formed w ≡ true) (e : Event) (k b : ℕ) (right :
   unfolding rightReasons
   no-right h =
       let t = known w f k b x at in
-      refused w f e NoRight (subst (λ rs. Refuses rs NoRight) (sym is)
+      refused w f e NoRight (subst (λ rs. FirstHolds rs NoRight) (sym is)
       (inr (t .card, inr (t .block, inl (ap (λ s. not (right s)) state-is ∙ rw h, refl)))))
 
   pub with-right : right (x .state) ≡ true → (r : Answer) (w′ : List ℕ) → r ≡ effect (view w) e .answer
@@ -90,11 +89,11 @@ module _ (w : List ℕ) (f : formed w ≡ true) (e : Event) (k b : ℕ) (right :
   unfolding rightReasons
   with-right h r w′ a g =
       let t = known w f k b x at in
-      done w f e r w′ (subst None (sym is) (t .card, (t .block, (ap (λ s. not (right s)) state-is ∙ rw h, tt)))) a g
+      done w f e r w′ (subst NoneHolds (sym is) (t .card, (t .block, (ap (λ s. not (right s)) state-is ∙ rw h, tt)))) a g
 
 -- Load, Store and Drop
 
-module _ (w : List ℕ) (f : formed w ≡ true) (k b : ℕ) (x : Cell) (at : There x ≡ found w k b) where
+module _ (w : List ℕ) (f : formed w ≡ true) (k b : ℕ) (x : Cell) (at : There x ≡ sought w k b) where
   pub load-done : loads (x .state) ≡ true → Does w (Load k b) (Done (x .value)) w
   unfolding reasons effect
   load-done h = with-right w f (Load k b) k b loads refl x at h (Done (x .value)) w

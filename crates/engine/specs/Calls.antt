@@ -1,20 +1,25 @@
--- Demand 3 of the functions: events other than Start, one after another, on the words of a freshly started chassis.
+-- Calls in a row: demand 3 and the marked sequences of the functions, by what they promise.
 use Prim.Native.Nat.{ℕ}
 use mathlib.Core.Bool.{true}
 use mathlib.Core.List.{List, [], _∷_}
 use mathlib.Core.Path.{_≡_}
 use mathlib.Core.Logic.{_≢_}
+use Rattle.rules.specs.Lists.{All}
+use Rattle.rules.specs.Answers.{refusalOf, valueOf}
 use Rattle.rules.specs.Events.{EventFits}
 use Rattle.rules.specs.History.{Did, did}
 use Rattle.rules.specs.Demand.{Coherent}
-use Rattle.rules.specs.declared.kinds.Answer.{Answer}
-use Rattle.rules.specs.declared.kinds.Answer.the-variants.{Done, Refused}
-use Rattle.rules.specs.declared.kinds.Refusal.the-variants.{Impossible, IllFormed}
-use Rattle.rules.specs.declared.kinds.Event.{Event}
-use Rattle.engine.specs.Words.{view}
+use Rattle.rules.specs.Marked.{Line, starts, _gives_, _refused_, shows, markedTable}
+use Rattle.rules.specs.declared.Answer.{Answer}
+use Rattle.rules.specs.declared.Answer.the-variants.{Done, Refused}
+use Rattle.rules.specs.declared.Refusal.the-variants.{Impossible, IllFormed}
+use Rattle.rules.specs.declared.Event.{Event}
+use Rattle.words.specs.Words.{view}
 use Rattle.engine.specs.Promise.{Answers, Starts}
 
--- Calls in a row, each on the words that the one before left; the log is of what they answered themselves, newest first
+-- Demand 3: events other than Start, one after another, on the words of a freshly started chassis
+
+-- calls in a row, each on the words that the one before left; the log is of what they answered themselves, newest first
 pub data Called : List ℕ → List Did → Type 0 where
   started : {w : List ℕ} (cards blocks v : ℕ) → Starts cards blocks (Done v) w → Called w []
   called : {w w′ : List ℕ} {log : List Did} (e : Event) (r : Answer)
@@ -28,3 +33,16 @@ pub record CallsCoherent (w : List ℕ) (log : List Did) : Type 0 where
 
 abbrev pub Calls-coherent : Type 0
 Calls-coherent = (w : List ℕ) (log : List Did) → Called w log → CallsCoherent w log
+
+-- "Marked sequences": the lines come out so, whatever keeps the promises, from words w
+
+abbrev pub Comes : List ℕ → List Line → Type 0
+Comes w [] = Unit {0}
+Comes w (starts cards blocks n ∷ ls) = (r : Answer) (w′ : List ℕ) → Starts cards blocks r w′ → (refusalOf r ≡ n) × (valueOf r ≡ 0) × Comes w′ ls
+Comes w (e gives v ∷ ls) = (r : Answer) (w′ : List ℕ) → Answers w e r w′ → (refusalOf r ≡ 0) × (valueOf r ≡ v) × Comes w′ ls
+Comes w (e refused n ∷ ls) = (r : Answer) (w′ : List ℕ) → Answers w e r w′ → (refusalOf r ≡ n) × (valueOf r ≡ 0) × Comes w′ ls
+Comes w (shows f ∷ ls) = (f (view w) ≡ true) × Comes w ls
+
+-- M1 to M10, on any words
+abbrev pub Marked-come : Type 0
+Marked-come = (w : List ℕ) → All (Comes w) markedTable

@@ -1,12 +1,5 @@
--- The chassis as words, and what the engine promises of them.
-pub mod Layout
-pub mod Words
+-- What the engine promises. To be believed: Promise, Calls, Running, beside the words of the crate `words`. Inner has what the inner functions do.
 pub mod Promise
 pub mod Calls
 pub mod Running
-pub mod Parts
-pub mod Found
-pub mod Leaving
-pub mod Tested
-pub mod Ordering
-pub mod Telling
+pub mod Inner

@@ -1,52 +1,53 @@
 // Ask, on words that are formed: the cell moves by the table, and the request joins the line's tail.
-use crate::cells::Found;
+use crate::cells::Sought;
 use crate::cells::find;
-use crate::layout::WORDS;
-use crate::masks::every;
-use crate::places::push_request;
-use crate::words::cards;
-use crate::words::put_cell;
-use crate::words::waiting;
-use rules::kinds::Answer;
-use rules::kinds::Cell;
-use rules::kinds::OrderNo;
-use rules::kinds::Refusal;
-use rules::kinds::Request;
-use rules::kinds::RetryNo;
+use crate::fields::cards;
+use crate::fields::put_cell;
+use crate::fields::waiting;
+use crate::lists::push_request;
+use crate::masks::inside;
+use rules::Answer;
+use rules::Cell;
+use rules::Mask;
+use rules::OrderNo;
+use rules::Refusal;
+use rules::Request;
+use rules::RetryNo;
 use rules::numbers::GETS;
 use rules::numbers::NONE;
 use rules::numbers::PUTX;
 use rules::numbers::ROOM;
 use rules::table;
+use words::layout::WORDS;
 ghost use mathlib.Core.Path.{_≡_};
 ghost use mathlib.Core.Bool.{true};
 ghost use Rattle.rules.specs.Chassis.{goesFor};
-ghost use Rattle.rules.specs.declared.kinds.Event.the-variants.{Ask};
-ghost use Rattle.engine.specs.declared.cells.Found.the-variants.{There};
-ghost use Rattle.engine.specs.Words.{formed};
-ghost use Rattle.engine.specs.Parts.{Does};
-ghost use Rattle.engine.specs.Found.{found};
+ghost use Rattle.rules.specs.declared.Event.the-variants.{Ask};
+ghost use Rattle.engine.specs.declared.cells.Sought.the-variants.{There};
+ghost use Rattle.words.specs.Words.{formed};
+ghost use Rattle.words.specs.Inner.Parts.{Does};
+ghost use Rattle.engine.specs.Inner.Sought.{sought};
 
 // Refusals 1 and 2 first, at the look-up.
-pub(crate) fn ask(s: &mut [u64; WORDS], card: u8, block: u8, kind: u8, mask: u8) -> Answer
+pub(crate) fn ask(s: &mut [u64; WORDS], card: u8, block: u8, kind: u8, mask: Mask) -> Answer
     requires { ⌜ formed (now s) ≡ true ⌝ }
     ensures { λ r. ⌜ Does (now (s .entry)) (Ask card block kind mask) r (now (s .exit)) ⌝ }
 {
     match find(s, card, block) {
-        Found::Missing(refusal) => Answer::Refused(refusal),
-        Found::There(cell) => ask_from(s, card, block, kind, mask, cell),
+        Sought::Missing(refusal) => Answer::Refused(refusal),
+        Sought::There(cell) => ask_from(s, card, block, kind, mask, cell),
     }
 }
 
 // The cell is there: refusals 5, 6, 4 and 7, in this order.
-fn ask_from(s: &mut [u64; WORDS], card: u8, block: u8, kind: u8, mask: u8, cell: Cell) -> Answer
-    requires { ⌜ (formed (now s) ≡ true) × (There cell ≡ found (now s) card block) ⌝ }
+fn ask_from(s: &mut [u64; WORDS], card: u8, block: u8, kind: u8, mask: Mask, cell: Cell) -> Answer
+    requires { ⌜ (formed (now s) ≡ true) × (There cell ≡ sought (now s) card block) ⌝ }
     ensures { λ r. ⌜ Does (now (s .entry)) (Ask card block kind mask) r (now (s .exit)) ⌝ }
 {
     if (kind < GETS) | (PUTX < kind) {
         return Answer::Refused(Refusal::NoSuchKind);
     }
-    if every(cards(s)) < mask {
+    if !inside(mask, cards(s)) {
         return Answer::Refused(Refusal::StrangerInMask);
     }
     let state = cell.state;
@@ -73,7 +74,7 @@ fn ask_from(s: &mut [u64; WORDS], card: u8, block: u8, kind: u8, mask: u8, cell:
 
 // The cell in another state, awaiting a number: the value is kept where that state loads.
 pub(crate) fn goes_for(number: OrderNo, state: u8, cell: Cell) -> Cell
-    ensures { λ r. ⌜ r ≡ goesFor (number .0) state cell ⌝ }
+    ensures { λ r. ⌜ r ≡ goesFor number state cell ⌝ }
 {
     let value = if table::loads(state) { cell.value } else { 0 };
     Cell {

@@ -1,100 +1,21 @@
-// The public events: each takes any words, and answers 15 where they are not formed, before all else.
+// The public events: each takes any words, and answers 15 where they are not formed, before all else. One function tests it for all of them.
 use crate::ask;
 use crate::cells;
 use crate::formed::is_formed;
-use crate::layout::WORDS;
 use crate::order;
 use crate::pool;
 use crate::rejoin;
-use rules::kinds::Answer;
-use rules::kinds::Event;
-use rules::kinds::Refusal;
+use rules::Answer;
+use rules::Event;
+use rules::Mask;
+use rules::Refusal;
+use words::layout::WORDS;
 ghost use mathlib.Core.Path.{_≡_};
 ghost use mathlib.Core.Bool.{true};
-ghost use Rattle.rules.specs.declared.kinds.Event.the-variants.{Load, Store, Drop, Ask, Order, Deliver, Copy, Rejoin};
-ghost use Rattle.engine.specs.Words.{formed};
+ghost use Rattle.rules.specs.declared.Event.the-variants.{Load, Store, Drop, Ask, Order, Deliver, Copy, Rejoin};
+ghost use Rattle.words.specs.Words.{formed};
 ghost use Rattle.engine.specs.Promise.{Answers};
-ghost use Rattle.engine.specs.Parts.{Does};
-
-// A card reads its cell's value.
-pub fn load(state: &mut [u64; WORDS], card: u8, block: u8) -> Answer
-    ensures { λ r. ⌜ Answers (now (state .entry)) (Load card block) r (now (state .exit)) ⌝ }
-{
-    if is_formed(state) {
-        return cells::load(state, card, block);
-    }
-    Answer::Refused(Refusal::IllFormed)
-}
-
-// A card writes its cell's value.
-pub fn store(state: &mut [u64; WORDS], card: u8, block: u8, value: u32) -> Answer
-    ensures { λ r. ⌜ Answers (now (state .entry)) (Store card block value) r (now (state .exit)) ⌝ }
-{
-    if is_formed(state) {
-        return cells::store(state, card, block, value);
-    }
-    Answer::Refused(Refusal::IllFormed)
-}
-
-// A card drops its copy, and home is not told.
-pub fn drop(state: &mut [u64; WORDS], card: u8, block: u8) -> Answer
-    ensures { λ r. ⌜ Answers (now (state .entry)) (Drop card block) r (now (state .exit)) ⌝ }
-{
-    if is_formed(state) {
-        return cells::drop(state, card, block);
-    }
-    Answer::Refused(Refusal::IllFormed)
-}
-
-// A card's request joins the line; the mask names the cards that are to see it.
-pub fn ask(state: &mut [u64; WORDS], card: u8, block: u8, kind: u8, mask: u8) -> Answer
-    ensures { λ r. ⌜ Answers (now (state .entry)) (Ask card block kind mask) r (now (state .exit)) ⌝ }
-{
-    if is_formed(state) {
-        return ask::ask(state, card, block, kind, mask);
-    }
-    Answer::Refused(Refusal::IllFormed)
-}
-
-// The request at the head of the line has its turn.
-pub fn order(state: &mut [u64; WORDS]) -> Answer
-    ensures { λ r. ⌜ Answers (now (state .entry)) Order r (now (state .exit)) ⌝ }
-{
-    if is_formed(state) {
-        return order::order(state);
-    }
-    Answer::Refused(Refusal::IllFormed)
-}
-
-// A message of the pool reaches its receiver.
-pub fn deliver(state: &mut [u64; WORDS], position: u8) -> Answer
-    ensures { λ r. ⌜ Answers (now (state .entry)) (Deliver position) r (now (state .exit)) ⌝ }
-{
-    if is_formed(state) {
-        return pool::deliver(state, position);
-    }
-    Answer::Refused(Refusal::IllFormed)
-}
-
-// A message of the pool is there once more.
-pub fn copy(state: &mut [u64; WORDS], position: u8) -> Answer
-    ensures { λ r. ⌜ Answers (now (state .entry)) (Copy position) r (now (state .exit)) ⌝ }
-{
-    if is_formed(state) {
-        return pool::copy(state, position);
-    }
-    Answer::Refused(Refusal::IllFormed)
-}
-
-// A card starts anew: out of the line and the sharers, its blocks to home, its cells I.
-pub fn rejoin(state: &mut [u64; WORDS], card: u8) -> Answer
-    ensures { λ r. ⌜ Answers (now (state .entry)) (Rejoin card) r (now (state .exit)) ⌝ }
-{
-    if is_formed(state) {
-        return rejoin::rejoin(state, card);
-    }
-    Answer::Refused(Refusal::IllFormed)
-}
+ghost use Rattle.words.specs.Inner.Parts.{Does};
 
 // Any event: the test of 15, and then what it does.
 pub fn step(state: &mut [u64; WORDS], event: Event) -> Answer
@@ -104,6 +25,70 @@ pub fn step(state: &mut [u64; WORDS], event: Event) -> Answer
         return act(state, event);
     }
     Answer::Refused(Refusal::IllFormed)
+}
+
+// A card reads its cell's value.
+pub fn load(state: &mut [u64; WORDS], card: u8, block: u8) -> Answer
+    ensures { λ r. ⌜ Answers (now (state .entry)) (Load card block) r (now (state .exit)) ⌝ }
+{
+    step(state, Event::Load { card, block })
+}
+
+// A card writes its cell's value.
+pub fn store(state: &mut [u64; WORDS], card: u8, block: u8, value: u32) -> Answer
+    ensures { λ r. ⌜ Answers (now (state .entry)) (Store card block value) r (now (state .exit)) ⌝ }
+{
+    step(state, Event::Store { card, block, value })
+}
+
+// A card drops its copy, and home is not told.
+pub fn drop(state: &mut [u64; WORDS], card: u8, block: u8) -> Answer
+    ensures { λ r. ⌜ Answers (now (state .entry)) (Drop card block) r (now (state .exit)) ⌝ }
+{
+    step(state, Event::Drop { card, block })
+}
+
+// A card's request joins the line; the mask names the cards that are to see it.
+pub fn ask(state: &mut [u64; WORDS], card: u8, block: u8, kind: u8, mask: Mask) -> Answer
+    ensures { λ r. ⌜ Answers (now (state .entry)) (Ask card block kind mask) r (now (state .exit)) ⌝ }
+{
+    step(
+        state,
+        Event::Ask {
+            card,
+            block,
+            kind,
+            mask,
+        },
+    )
+}
+
+// The request at the head of the line has its turn.
+pub fn order(state: &mut [u64; WORDS]) -> Answer
+    ensures { λ r. ⌜ Answers (now (state .entry)) Order r (now (state .exit)) ⌝ }
+{
+    step(state, Event::Order)
+}
+
+// A message of the pool reaches its receiver.
+pub fn deliver(state: &mut [u64; WORDS], position: u8) -> Answer
+    ensures { λ r. ⌜ Answers (now (state .entry)) (Deliver position) r (now (state .exit)) ⌝ }
+{
+    step(state, Event::Deliver { position })
+}
+
+// A message of the pool is there once more.
+pub fn copy(state: &mut [u64; WORDS], position: u8) -> Answer
+    ensures { λ r. ⌜ Answers (now (state .entry)) (Copy position) r (now (state .exit)) ⌝ }
+{
+    step(state, Event::Copy { position })
+}
+
+// A card starts anew: out of the line and the sharers, its blocks to home, its cells I.
+pub fn rejoin(state: &mut [u64; WORDS], card: u8) -> Answer
+    ensures { λ r. ⌜ Answers (now (state .entry)) (Rejoin card) r (now (state .exit)) ⌝ }
+{
+    step(state, Event::Rejoin { card })
 }
 
 // Any event, on words that are formed.

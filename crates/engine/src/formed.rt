@@ -1,27 +1,24 @@
 // Refusal 15: whether words are those of a well formed chassis, tested item by item.
-use crate::layout::BLOCK_WORDS;
-use crate::layout::CELL_WORDS;
-use crate::layout::HEAD;
-use crate::layout::HOME_WORDS;
-use crate::layout::LINE;
-use crate::layout::PLACE_WORDS;
-use crate::layout::POOL;
-use crate::layout::WORDS;
+use crate::fields::blocks;
+use crate::fields::cards;
+use crate::fields::cell_at;
+use crate::fields::home_at;
+use crate::fields::last;
+use crate::fields::message_at;
+use crate::fields::pooled;
+use crate::fields::request_at;
+use crate::fields::waiting;
 use crate::masks::every;
-use crate::words::Home;
-use crate::words::blocks;
-use crate::words::cards;
-use crate::words::cell_at;
-use crate::words::home_at;
-use crate::words::last;
-use crate::words::message_at;
-use crate::words::pooled;
-use crate::words::request_at;
-use crate::words::waiting;
-use rules::kinds::Cell;
-use rules::kinds::Message;
-use rules::kinds::OrderNo;
-use rules::kinds::Request;
+use crate::masks::inside;
+use crate::places::cell_place;
+use crate::places::home_place;
+use crate::places::message_place;
+use crate::places::request_place;
+use rules::Cell;
+use rules::Home;
+use rules::Message;
+use rules::OrderNo;
+use rules::Request;
 use rules::numbers::GETS;
 use rules::numbers::HOME;
 use rules::numbers::LAST_RETRY;
@@ -32,6 +29,7 @@ use rules::numbers::ROOM;
 use rules::numbers::STATES;
 use rules::table::loads;
 use rules::table::waits;
+use words::layout::WORDS;
 ghost use mathlib.Core.Path.{_≡_};
 ghost use mathlib.Core.Bool.{_&&_};
 ghost use Prim.Native.Nat.{_+_, _≤_, _<_};
@@ -40,17 +38,9 @@ ghost use Rattle.rules.specs.Tests.{all};
 ghost use Rattle.rules.specs.Masks.{inside};
 ghost use Rattle.rules.specs.Numbers.{mostCards, mostBlocks, room};
 ghost use Rattle.rules.specs.Formed.{sizes, homeOrCard, okCell, okRequest, okMessage};
-ghost use Rattle.engine.specs.Layout.{allWords};
-ghost use Rattle.engine.specs.Words.{cardsOf, formed};
-ghost use Rattle.engine.specs.Tested.{
-  threeAt,
-  fiveAt,
-  headTest,
-  cellTest,
-  blockTest,
-  requestTest,
-  messageTest,
-};
+ghost use Rattle.words.specs.Layout.{allWords};
+ghost use Rattle.words.specs.Words.{cardsOf, formed};
+ghost use Rattle.words.specs.Inner.Tested.{rowIs, headTest, cellTest, blockTest, requestTest, messageTest};
 
 // How many words there are: a proof knows it of a slice only.
 fn len_of(s: &[u64]) -> usize
@@ -66,19 +56,18 @@ fn sized(s: &[u64; WORDS]) -> usize
     len_of(s)
 }
 
-// The words from place p on are these.
-fn three_at(s: &[u64; WORDS], p: usize, a: u64, b: u64, c: u64) -> bool
-    requires { ⌜ p + 2 < allWords ⌝ }
-    ensures { λ r. ⌜ r ≡ threeAt (now (s .entry)) p a b c ⌝ }
+// The words from a place on are these.
+fn row_is(s: &[u64; WORDS], at: usize, row: &[u64]) -> bool
+    requires { ⌜ at + length (now row) ≤ allWords ⌝ }
+    ensures { λ r. ⌜ r ≡ rowIs (now (s .entry)) at (now (row .entry)) ⌝ }
 {
-    (s[p] == a) & (s[p + 1] == b) & (s[p + 2] == c)
-}
-
-fn five_at(s: &[u64; WORDS], p: usize, a: u64, b: u64, c: u64, d: u64, e: u64) -> bool
-    requires { ⌜ p + 4 < allWords ⌝ }
-    ensures { λ r. ⌜ r ≡ fiveAt (now (s .entry)) p a b c d e ⌝ }
-{
-    (s[p] == a) & (s[p + 1] == b) & (s[p + 2] == c) & (s[p + 3] == d) & (s[p + 4] == e)
+    let mut same = true;
+    let mut i = 0;
+    while i < row.len() {
+        same = same & (s[at + i] == row[i]);
+        i += 1;
+    }
+    same
 }
 
 // The sizes that there are.
@@ -95,17 +84,9 @@ fn home_or_card(k: u8, cards: u64) -> bool
     (k == HOME) | ((k as u64) < cards)
 }
 
-// No card in the mask but those that are there.
-fn is_inside(mask: u8, cards: u64) -> bool
-    requires { ⌜ cards ≤ mostCards ⌝ }
-    ensures { λ r. ⌜ r ≡ inside cards mask ⌝ }
-{
-    mask <= every(cards)
-}
-
 // A cell of a card that is there.
 fn ok_cell(x: Cell, last: OrderNo) -> bool
-    ensures { λ r. ⌜ r ≡ okCell (last .0) x ⌝ }
+    ensures { λ r. ⌜ r ≡ okCell last x ⌝ }
 {
     let n = x.awaits;
     let w = waits(x.state);
@@ -122,7 +103,7 @@ fn ok_home(h: Home, cards: u64) -> bool
     requires { ⌜ cards ≤ mostCards ⌝ }
     ensures { λ r. ⌜ r ≡ (homeOrCard cards (h .owner) && inside cards (h .sharers)) ⌝ }
 {
-    home_or_card(h.owner, cards) & is_inside(h.sharers, cards)
+    home_or_card(h.owner, cards) & inside(h.sharers, cards)
 }
 
 // A request in the line.
@@ -143,7 +124,7 @@ fn ok_request(r: Request, cards: u64, blocks: u64) -> bool
 
 // A message in the pool.
 fn ok_message(m: Message, cards: u64, blocks: u64, last: OrderNo) -> bool
-    ensures { λ r. ⌜ r ≡ okMessage cards blocks (last .0) m ⌝ }
+    ensures { λ r. ⌜ r ≡ okMessage cards blocks last m ⌝ }
 {
     let n = m.number;
     home_or_card(m.sender, cards)
@@ -165,13 +146,13 @@ fn cell_formed(s: &[u64; WORDS], card: u8, block: u8, cards: u64) -> bool
     requires { ⌜ (card < mostCards) × (block < mostBlocks) ⌝ }
     ensures { λ r. ⌜ r ≡ cellTest (now (s .entry)) cards block card ⌝ }
 {
-    let p = HEAD + BLOCK_WORDS * (block as usize) + HOME_WORDS + CELL_WORDS * (card as usize);
+    let p = cell_place(card, block);
     if (card as u64) < cards {
         let x = cell_at(s, card, block);
         let n = x.awaits;
-        return three_at(s, p, x.state as u64, x.value as u64, n.0) & ok_cell(x, last(s));
+        return row_is(s, p, &[x.state as u64, x.value as u64, n.0]) & ok_cell(x, last(s));
     }
-    three_at(s, p, 0, 0, 0)
+    row_is(s, p, &[0, 0, 0])
 }
 
 // The cells of a block.
@@ -193,14 +174,14 @@ fn block_formed(s: &[u64; WORDS], block: u8) -> bool
     requires { ⌜ (cardsOf (now s) ≤ mostCards) × (block < mostBlocks) ⌝ }
     ensures { λ r. ⌜ r ≡ blockTest (now (s .entry)) block ⌝ }
 {
-    let p = HEAD + BLOCK_WORDS * (block as usize);
+    let p = home_place(block);
     let n = cards(s);
     if (block as u64) < blocks(s) {
         let h = home_at(s, block);
-        let same = three_at(s, p, h.memory as u64, h.owner as u64, h.sharers as u64);
+        let same = row_is(s, p, &[h.memory as u64, h.owner as u64, h.sharers as u64]);
         return same & ok_home(h, n) & cells_formed(s, block, n);
     }
-    three_at(s, p, 0, HOME as u64, 0) & cells_formed(s, block, 0)
+    row_is(s, p, &[0, HOME as u64, 0]) & cells_formed(s, block, 0)
 }
 
 // The blocks.
@@ -222,22 +203,24 @@ fn request_formed(s: &[u64; WORDS], place: usize) -> bool
     requires { ⌜ (cardsOf (now s) ≤ mostCards) × (place < room) ⌝ }
     ensures { λ r. ⌜ r ≡ requestTest (now (s .entry)) place ⌝ }
 {
-    let p = LINE + PLACE_WORDS * place;
+    let p = request_place(place);
     if (place as u64) < waiting(s) {
         let r = request_at(s, place);
         let n = r.retry;
-        let same = five_at(
+        let same = row_is(
             s,
             p,
-            r.card as u64,
-            r.block as u64,
-            r.kind as u64,
-            r.mask as u64,
-            n.0 as u64,
+            &[
+                r.card as u64,
+                r.block as u64,
+                r.kind as u64,
+                r.mask as u64,
+                n.0 as u64,
+            ],
         );
         return same & ok_request(r, cards(s), blocks(s));
     }
-    five_at(s, p, 0, 0, 0, 0, 0)
+    row_is(s, p, &[0, 0, 0, 0, 0])
 }
 
 // The line.
@@ -259,22 +242,24 @@ fn message_formed(s: &[u64; WORDS], place: usize) -> bool
     requires { ⌜ place < room ⌝ }
     ensures { λ r. ⌜ r ≡ messageTest (now (s .entry)) place ⌝ }
 {
-    let p = POOL + PLACE_WORDS * place;
+    let p = message_place(place);
     if (place as u64) < pooled(s) {
         let m = message_at(s, place);
         let n = m.number;
-        let same = five_at(
+        let same = row_is(
             s,
             p,
-            m.sender as u64,
-            m.receiver as u64,
-            m.block as u64,
-            m.value as u64,
-            n.0,
+            &[
+                m.sender as u64,
+                m.receiver as u64,
+                m.block as u64,
+                m.value as u64,
+                n.0,
+            ],
         );
         return same & ok_message(m, cards(s), blocks(s), last(s));
     }
-    five_at(s, p, 0, 0, 0, 0, 0)
+    row_is(s, p, &[0, 0, 0, 0, 0])
 }
 
 // The pool.

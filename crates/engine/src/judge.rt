@@ -1,24 +1,23 @@
 // What is decided of the request at the head: the first reason to refuse it, or its turn. Nothing is stored here.
-use crate::layout::WORDS;
+use crate::fields::cards;
+use crate::fields::cell_at;
+use crate::fields::home_at;
+use crate::fields::idle;
+use crate::fields::last;
+use crate::fields::pooled;
 use crate::mask::suffices;
-use crate::words::Home;
-use crate::words::cards;
-use crate::words::cell_at;
-use crate::words::home_at;
-use crate::words::last;
-use crate::words::pooled;
-use rules::kinds::Cell;
-use rules::kinds::OrderNo;
-use rules::kinds::Refusal;
-use rules::kinds::Request;
-use rules::kinds::Turn;
+use rules::Cell;
+use rules::Home;
+use rules::Refusal;
+use rules::Request;
+use rules::Turn;
 use rules::numbers::GETS;
 use rules::numbers::HOME;
-use rules::numbers::I;
 use rules::numbers::LAST_NUMBER;
 use rules::numbers::PUTX;
 use rules::numbers::ROOM;
 use rules::table;
+use words::layout::WORDS;
 ghost use mathlib.Core.Path.{_≡_};
 ghost use mathlib.Core.Bool.{true};
 ghost use Prim.Native.Nat.{_≤_, _<_};
@@ -26,8 +25,9 @@ ghost use Rattle.rules.specs.Numbers.{mostCards, mostBlocks};
 ghost use Rattle.rules.specs.Chassis.{Block};
 ghost use Rattle.rules.specs.Order.{held, impossible, turn};
 ghost use Rattle.rules.specs.Formed.{homeOrCard};
-ghost use Rattle.engine.specs.Words.{view, cardsOf, waitingOf, requestAt, formed};
-ghost use Rattle.engine.specs.Ordering.{HomeIs, judgedFree, judged};
+ghost use Rattle.words.specs.Words.{view, cardsOf, waitingOf, requestAt, formed};
+ghost use Rattle.words.specs.Inner.Parts.{HomeIs};
+ghost use Rattle.engine.specs.Inner.Ordering.{judgedFree, judged};
 
 // What is decided: a refusal, or the turn.
 pub(crate) enum Judged {
@@ -91,11 +91,7 @@ pub(crate) fn owner_cell(s: &[u64; WORDS], block: u8, owner: u8) -> Cell
     ensures { λ r. ⌜ r ≡ view (now (s .entry)) .block block .cell owner ⌝ }
 {
     if owner == HOME {
-        return Cell {
-            state: I,
-            value: 0,
-            awaits: OrderNo(0),
-        };
+        return idle();
     }
     cell_at(s, owner, block)
 }

@@ -2,9 +2,10 @@
 mod ask;
 mod cells;
 pub mod events;
+mod fields;
 mod formed;
 mod judge;
-pub mod layout;
+mod lists;
 mod mask;
 mod masks;
 mod order;
@@ -15,4 +16,3 @@ pub mod run;
 mod sees;
 pub mod start;
 mod turns;
-mod words;

@@ -1,7 +1,8 @@
 // The mask test: whether the cards that a request names are enough.
 use crate::masks::has;
-use crate::words::Home;
-use rules::kinds::Request;
+use rules::Home;
+use rules::Mask;
+use rules::Request;
 use rules::numbers::GETS;
 use rules::numbers::HOME;
 ghost use mathlib.Core.Path.{_≡_};
@@ -11,9 +12,9 @@ ghost use Prim.Native.Nat.{_≤_};
 ghost use Rattle.rules.specs.Numbers.{mostCards, home};
 ghost use Rattle.rules.specs.Masks.{has};
 ghost use Rattle.rules.specs.Chassis.{Block};
-ghost use Rattle.rules.specs.Order.{suffices};
+ghost use Rattle.rules.specs.Mask.{sharersNamed, suffices};
 ghost use Rattle.rules.specs.Formed.{homeOrCard};
-ghost use Rattle.engine.specs.Ordering.{HomeIs, sharersNamed};
+ghost use Rattle.words.specs.Inner.Parts.{HomeIs};
 
 // The owner is home or named; GETX needs also every sharer other than the asker.
 pub(crate) fn suffices(cards: u64, home: Home, request: Request) -> bool
@@ -30,7 +31,7 @@ pub(crate) fn suffices(cards: u64, home: Home, request: Request) -> bool
 }
 
 // The owner is home or in the mask.
-fn owner_named(owner: u8, mask: u8) -> bool
+fn owner_named(owner: u8, mask: Mask) -> bool
     requires { ⌜ homeOrCard mostCards owner ≡ true ⌝ }
     ensures { λ r. ⌜ r ≡ (eqb owner home || has mask owner) ⌝ }
 {
@@ -41,7 +42,7 @@ fn owner_named(owner: u8, mask: u8) -> bool
 }
 
 // The cards are walked one by one.
-fn sharers_named(cards: u64, sharers: u8, request: Request) -> bool
+fn sharers_named(cards: u64, sharers: Mask, request: Request) -> bool
     requires { ⌜ cards ≤ mostCards ⌝ }
     ensures { λ r. ⌜ r ≡ sharersNamed cards sharers request ⌝ }
 {

@@ -1,39 +1,39 @@
 // Order, on words that are formed: the request at the head has its turn.
+use crate::fields::cell_at;
+use crate::fields::home_at;
+use crate::fields::last;
+use crate::fields::put_home;
+use crate::fields::request_at;
+use crate::fields::set_last;
+use crate::fields::waiting;
 use crate::judge::Judged;
 use crate::judge::judge;
 use crate::judge::owner_cell;
-use crate::layout::WORDS;
 use crate::sees::cards_see;
 use crate::turns::given;
 use crate::turns::home_after;
 use crate::turns::line_after;
 use crate::turns::pool_after;
-use crate::words::cell_at;
-use crate::words::home_at;
-use crate::words::last;
-use crate::words::put_home;
-use crate::words::request_at;
-use crate::words::set_last;
-use crate::words::waiting;
-use rules::kinds::Answer;
-use rules::kinds::Message;
-use rules::kinds::OrderNo;
-use rules::kinds::Refusal;
-use rules::kinds::Request;
-use rules::kinds::Turn;
+use rules::Answer;
+use rules::Message;
+use rules::OrderNo;
+use rules::Refusal;
+use rules::Request;
+use rules::Turn;
 use rules::numbers::GRANTED;
 use rules::numbers::PUT_LAPSED;
 use rules::numbers::PUT_TAKEN;
 use rules::numbers::TOO_SMALL;
+use words::layout::WORDS;
 ghost use mathlib.Core.Path.{_≡_};
 ghost use mathlib.Core.Bool.{true};
 ghost use Prim.Native.Nat.{_<_};
-ghost use Rattle.rules.specs.Order.{outcomeNo};
-ghost use Rattle.rules.specs.declared.kinds.Event.the-variants.{Order};
+ghost use Rattle.rules.specs.Order.{upshotOf};
+ghost use Rattle.rules.specs.declared.Event.the-variants.{Order};
 ghost use Rattle.engine.specs.declared.judge.Judged.the-variants.{Yes};
-ghost use Rattle.engine.specs.Words.{view, waitingOf, requestAt, formed};
-ghost use Rattle.engine.specs.Parts.{Does};
-ghost use Rattle.engine.specs.Ordering.{judged};
+ghost use Rattle.words.specs.Words.{view, waitingOf, requestAt, formed};
+ghost use Rattle.words.specs.Inner.Parts.{Does};
+ghost use Rattle.engine.specs.Inner.Ordering.{judged};
 
 // Refusal 8 first; then what is decided of the head.
 pub(crate) fn order(s: &mut [u64; WORDS]) -> Answer
@@ -80,7 +80,7 @@ fn take_turn(s: &mut [u64; WORDS], request: Request, turn: Turn) -> Answer
 
 // The outcome that Order answers.
 fn outcome_no(turn: Turn) -> u32
-    ensures { λ r. ⌜ r ≡ outcomeNo turn ⌝ }
+    ensures { λ r. ⌜ r ≡ upshotOf turn .outcome ⌝ }
 {
     match turn {
         Turn::GetsGranted | Turn::GetxGranted => GRANTED,

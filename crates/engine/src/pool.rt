@@ -1,32 +1,32 @@
 // Deliver and Copy, on words that are formed: one message of the pool, by its position.
-use crate::layout::WORDS;
-use crate::places::push_message;
-use crate::places::remove_message;
-use crate::words::cell_at;
-use crate::words::message_at;
-use crate::words::pooled;
-use crate::words::put_cell;
-use rules::kinds::Answer;
-use rules::kinds::Cell;
-use rules::kinds::Message;
-use rules::kinds::OrderNo;
-use rules::kinds::Refusal;
+use crate::fields::cell_at;
+use crate::fields::message_at;
+use crate::fields::pooled;
+use crate::fields::put_cell;
+use crate::lists::push_message;
+use crate::lists::remove_message;
+use rules::Answer;
+use rules::Cell;
+use rules::Message;
+use rules::OrderNo;
+use rules::Refusal;
 use rules::numbers::ROOM;
 use rules::numbers::STALE;
 use rules::numbers::TAKEN;
 use rules::table;
+use words::layout::WORDS;
 ghost use mathlib.Core.Path.{_≡_};
 ghost use mathlib.Core.Bool.{true, _&&_};
-ghost use lib.Dec.{eqb};
+ghost use Rattle.rules.specs.Numbers.{sameNumber};
 ghost use Rattle.rules.specs.Table.{waits};
 ghost use Rattle.rules.specs.Events.{takes};
-ghost use Rattle.rules.specs.declared.kinds.Event.the-variants.{Deliver, Copy};
-ghost use Rattle.engine.specs.Words.{formed};
-ghost use Rattle.engine.specs.Parts.{Does};
+ghost use Rattle.rules.specs.declared.Event.the-variants.{Deliver, Copy};
+ghost use Rattle.words.specs.Words.{formed};
+ghost use Rattle.words.specs.Inner.Parts.{Does};
 
 // The receiver's cell waits for this very message.
 fn is_live(cell: Cell, message: Message) -> bool
-    ensures { λ r. ⌜ r ≡ (waits (cell .state) && eqb (cell .awaits .0) (message .number .0)) ⌝ }
+    ensures { λ r. ⌜ r ≡ (waits (cell .state) && sameNumber (cell .awaits) (message .number)) ⌝ }
 {
     let awaits = cell.awaits;
     let number = message.number;

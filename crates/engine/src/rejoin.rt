@@ -1,28 +1,29 @@
 // Rejoin, on words that are formed: the card's requests leave the line, and it leaves the blocks that are there.
-use crate::layout::WORDS;
-use crate::places::remove_request;
-use crate::words::Home;
-use crate::words::blocks;
-use crate::words::cards;
-use crate::words::home_at;
-use crate::words::put_cell;
-use crate::words::put_home;
-use crate::words::request_at;
-use crate::words::waiting;
-use rules::kinds::Answer;
-use rules::kinds::Cell;
-use rules::kinds::OrderNo;
-use rules::kinds::Refusal;
+use crate::fields::blocks;
+use crate::fields::cards;
+use crate::fields::home_at;
+use crate::fields::idle;
+use crate::fields::put_cell;
+use crate::fields::put_home;
+use crate::fields::request_at;
+use crate::fields::waiting;
+use crate::lists::remove_request;
+use crate::masks::only;
+use crate::masks::without;
+use rules::Answer;
+use rules::Home;
+use rules::Refusal;
 use rules::numbers::HOME;
-use rules::numbers::I;
+use words::layout::WORDS;
 ghost use mathlib.Core.Path.{_≡_};
 ghost use mathlib.Core.Bool.{true};
 ghost use Prim.Native.Nat.{_≤_, _<_};
 ghost use Rattle.rules.specs.Numbers.{mostCards, mostBlocks};
-ghost use Rattle.rules.specs.declared.kinds.Event.the-variants.{Rejoin};
-ghost use Rattle.engine.specs.Words.{words, view, blocksOf, formed};
-ghost use Rattle.engine.specs.Parts.{Does};
-ghost use Rattle.engine.specs.Leaving.{homeLeft, HomeFits, HomesFit, blockLeft, blocksLeft, lineLeft, BecomesIf};
+ghost use Rattle.rules.specs.declared.Event.the-variants.{Rejoin};
+ghost use Rattle.words.specs.Words.{words, view, blocksOf, formed};
+ghost use Rattle.words.specs.Inner.Parts.{Does};
+ghost use Rattle.words.specs.Claims.{BlockFits};
+ghost use Rattle.words.specs.Inner.Leaving.{homeLeft, BlocksFit, blockLeft, blocksLeft, lineLeft, BecomesIf};
 
 // The card leaves the line and every block.
 pub(crate) fn rejoin(s: &mut [u64; WORDS], card: u8) -> Answer
@@ -56,7 +57,7 @@ fn leave_line(s: &mut [u64; WORDS], card: u8)
 // The card leaves the blocks that are there.
 fn leave_blocks(s: &mut [u64; WORDS], card: u8)
     requires { ⌜ (card < mostCards) × (blocksOf (now s) ≤ mostBlocks) ⌝ }
-    ensures { λ _. ⌜ BecomesIf HomesFit (now (s .entry)) (now (s .exit)) (λ c. blocksLeft c card (c .blocks)) ⌝ }
+    ensures { λ _. ⌜ BecomesIf BlocksFit (now (s .entry)) (now (s .exit)) (λ c. blocksLeft c card (c .blocks)) ⌝ }
 {
     let n = blocks(s);
     let mut block: u8 = 0;
@@ -69,20 +70,11 @@ fn leave_blocks(s: &mut [u64; WORDS], card: u8)
 // The card leaves a block: home's part first, then its cell.
 fn leave_block(s: &mut [u64; WORDS], card: u8, block: u8)
     requires { ⌜ (card < mostCards) × (block < mostBlocks) ⌝ }
-    ensures { λ _. ⌜ BecomesIf (λ c. HomeFits (c .block block)) (now (s .entry)) (now (s .exit)) (λ c. blockLeft c card block) ⌝ }
+    ensures { λ _. ⌜ BecomesIf (λ c. BlockFits (c .block block)) (now (s .entry)) (now (s .exit)) (λ c. blockLeft c card block) ⌝ }
 {
     let home = home_at(s, block);
     put_home(s, block, home_without(home, card));
-    put_cell(
-        s,
-        card,
-        block,
-        Cell {
-            state: I,
-            value: 0,
-            awaits: OrderNo(0),
-        },
-    );
+    put_cell(s, card, block, idle());
 }
 
 // Home's part of a block without the card: the block goes to home where the card is its owner, and the card is no sharer.
@@ -91,7 +83,7 @@ fn home_without(h: Home, card: u8) -> Home
     ensures { λ r. ⌜ r ≡ homeLeft h card ⌝ }
 {
     let memory = h.memory;
-    let sharers = h.sharers ^ (h.sharers & (1u8 << card));
+    let sharers = without(h.sharers, only(card));
     if h.owner == card {
         return Home {
             memory,

@@ -1,34 +1,29 @@
 // The cards' parts of a turn: what the asker, the owner and the readers make of the request.
 use crate::ask::goes_for;
-use crate::layout::WORDS;
+use crate::fields::cards;
+use crate::fields::cell_at;
+use crate::fields::idle;
+use crate::fields::put_cell;
 use crate::masks::has;
-use crate::words::cards;
-use crate::words::cell_at;
-use crate::words::put_cell;
-use rules::kinds::Cell;
-use rules::kinds::OrderNo;
-use rules::kinds::Request;
-use rules::kinds::Turn;
-use rules::numbers::I;
+use rules::Cell;
+use rules::OrderNo;
+use rules::Request;
+use rules::Turn;
 use rules::table;
+use words::layout::WORDS;
 ghost use mathlib.Core.Path.{_≡_};
 ghost use Prim.Native.Nat.{ℕ, _≤_, _<_};
 ghost use Rattle.rules.specs.Numbers.{mostCards, mostBlocks};
-ghost use Rattle.rules.specs.Chassis.{Block, Chassis, cellOf};
-ghost use Rattle.rules.specs.Order.{askerSees, ownerSees, readerSees, sees};
-ghost use Rattle.engine.specs.Words.{words, cardsOf};
-ghost use Rattle.engine.specs.Parts.{CellFits};
-ghost use Rattle.engine.specs.Ordering.{blockChanged, seenBelow};
+ghost use Rattle.rules.specs.Chassis.{Block, Chassis, cellOf, blockChanged};
+ghost use Rattle.rules.specs.Order.{upshotOf, sees};
+ghost use Rattle.words.specs.Words.{words, cardsOf};
+ghost use Rattle.words.specs.Claims.{CellFits};
+ghost use Rattle.words.specs.Inner.Parts.{seenBelow};
 
 // The asker's cell after the turn.
 fn asker_sees(turn: Turn, number: OrderNo, cell: Cell) -> Cell
-    ensures { λ r. ⌜ r ≡ askerSees turn (number .0) cell ⌝ }
+    ensures { λ r. ⌜ r ≡ upshotOf turn .askerSees number cell ⌝ }
 {
-    let idle = Cell {
-        state: I,
-        value: 0,
-        awaits: OrderNo(0),
-    };
     match turn {
         Turn::GetsGranted | Turn::GetxGranted => goes_for(
             number,
@@ -36,13 +31,13 @@ fn asker_sees(turn: Turn, number: OrderNo, cell: Cell) -> Cell
             cell,
         ),
         Turn::GetsMissed | Turn::GetxMissed => cell,
-        Turn::PutTaken | Turn::PutLapsed => idle,
+        Turn::PutTaken | Turn::PutLapsed => idle(),
     }
 }
 
 // The owner's cell after the turn.
 fn owner_sees(turn: Turn, cell: Cell) -> Cell
-    ensures { λ r. ⌜ r ≡ ownerSees turn cell ⌝ }
+    ensures { λ r. ⌜ r ≡ upshotOf turn .ownerSees cell ⌝ }
 {
     match turn {
         Turn::GetsGranted => goes_for(OrderNo(0), table::sees_gets(cell.state), cell),
@@ -53,7 +48,7 @@ fn owner_sees(turn: Turn, cell: Cell) -> Cell
 
 // A reader's cell after the turn.
 fn reader_sees(turn: Turn, cell: Cell) -> Cell
-    ensures { λ r. ⌜ r ≡ readerSees turn cell ⌝ }
+    ensures { λ r. ⌜ r ≡ upshotOf turn .readerSees cell ⌝ }
 {
     match turn {
         Turn::GetxGranted | Turn::GetxMissed => {
@@ -70,7 +65,7 @@ fn reader_sees(turn: Turn, cell: Cell) -> Cell
 // What a card makes of the request, where home lists this owner.
 fn seen(turn: Turn, number: OrderNo, request: Request, owner: u8, card: u8, cell: Cell) -> Cell
     requires { ⌜ card < mostCards ⌝ }
-    ensures { λ r. ⌜ ((B : Block) → B .owner ≡ owner → B .cell card ≡ cell → r ≡ sees turn B request (number .0) card) ⌝ }
+    ensures { λ r. ⌜ ((B : Block) → B .owner ≡ owner → B .cell card ≡ cell → r ≡ sees turn B request number card) ⌝ }
 {
     if request.card == card {
         return asker_sees(turn, number, cell);
@@ -95,7 +90,7 @@ pub(crate) fn cards_see(
     requires { ⌜ (cardsOf (now s) ≤ mostCards) × (request .block < mostBlocks) ⌝ }
     ensures { λ _. ⌜ ((c : Chassis) → now (s .entry) ≡ words c → ((k : ℕ) → k < mostCards → CellFits (cellOf c k (request .block)))
         → c .block (request .block) .owner ≡ owner
-        → now (s .exit) ≡ words (blockChanged c (request .block) (seenBelow (c .cards) turn (c .block (request .block)) request (number .0)))) ⌝ }
+        → now (s .exit) ≡ words (blockChanged c (request .block) (seenBelow (c .cards) turn (c .block (request .block)) request number))) ⌝ }
 {
     let block = request.block;
     let n = cards(s);

@@ -1,17 +1,17 @@
 // Start: the words of a new chassis.
+use crate::fields::put_home;
+use crate::fields::set_blocks;
+use crate::fields::set_cards;
 use crate::formed::are_sizes;
-use crate::layout::WORDS;
-use crate::words::Home;
-use crate::words::put_home;
-use crate::words::set_blocks;
-use crate::words::set_cards;
-use rules::kinds::Answer;
-use rules::kinds::Refusal;
+use rules::Answer;
+use rules::Home;
+use rules::Refusal;
 use rules::numbers::HOME;
 use rules::numbers::MOST_BLOCKS;
+use words::layout::WORDS;
 ghost use mathlib.Core.Path.{_≡_};
 ghost use Rattle.rules.specs.Chassis.{fresh};
-ghost use Rattle.engine.specs.Words.{words};
+ghost use Rattle.words.specs.Words.{words};
 ghost use Rattle.engine.specs.Promise.{Starts};
 
 // What Start answers, and the words that it makes.

@@ -1,32 +1,34 @@
 // What a turn does beside the cards' parts: home's part, the message, the line.
-use crate::layout::WORDS;
+use crate::fields::cards;
+use crate::lists::push_message;
+use crate::lists::push_request;
+use crate::lists::remove_request;
 use crate::masks::every;
 use crate::masks::only;
-use crate::places::push_message;
-use crate::places::push_request;
-use crate::places::remove_request;
-use crate::words::Home;
-use crate::words::cards;
-use rules::kinds::Cell;
-use rules::kinds::Message;
-use rules::kinds::Request;
-use rules::kinds::RetryNo;
-use rules::kinds::Turn;
+use crate::masks::union;
+use rules::Cell;
+use rules::Home;
+use rules::Mask;
+use rules::Message;
+use rules::Request;
+use rules::RetryNo;
+use rules::Turn;
 use rules::numbers::HOME;
 use rules::numbers::LAST_RETRY;
+use words::layout::WORDS;
 ghost use mathlib.Core.Path.{_≡_};
 ghost use mathlib.Core.Bool.{true};
 ghost use mathlib.Core.List.{_++_};
-ghost use Prim.Native.Nat.{ℕ, _≤_, _<_};
+ghost use Prim.Native.Nat.{_≤_, _<_};
 ghost use Rattle.rules.specs.Lists.{removed};
-ghost use Rattle.rules.specs.Numbers.{mostCards, room, lastRetry};
-ghost use Rattle.rules.specs.Chassis.{Block, Chassis, poolChanged};
+ghost use Rattle.rules.specs.Numbers.{mostCards, room, lastRetry, granted};
+ghost use Rattle.rules.specs.Chassis.{Block, Chassis, lineChanged, poolChanged};
 ghost use Rattle.rules.specs.Formed.{homeOrCard};
-ghost use Rattle.rules.specs.Order.{given, memoryAfter, ownerAfter, sharersAfter, dataFor, sent, retryMask, retried, again};
-ghost use Rattle.rules.specs.declared.kinds.Turn.the-variants.{GetsGranted};
-ghost use Rattle.engine.specs.Words.{words, cardsOf, waitingOf, pooledOf};
-ghost use Rattle.engine.specs.Parts.{lineChanged};
-ghost use Rattle.engine.specs.Ordering.{HomeIs, grants};
+ghost use Rattle.rules.specs.Order.{given, upshotOf, dataFor, retryMask, retried};
+ghost use Rattle.rules.specs.declared.OrderNo.{OrderNo};
+ghost use Rattle.rules.specs.declared.Turn.the-variants.{GetsGranted};
+ghost use Rattle.words.specs.Words.{words, cardsOf, waitingOf, pooledOf};
+ghost use Rattle.words.specs.Inner.Parts.{HomeIs, HomeAfter};
 
 // Home's part
 
@@ -42,14 +44,14 @@ pub(crate) fn given(home: Home, owner: Cell) -> u32
 }
 
 // The sharers after a GETS that is granted: a card that owned, or else those there were, and the asker.
-fn sharers_with(home: Home, asker: u8) -> u8
+fn sharers_with(home: Home, asker: u8) -> Mask
     requires { ⌜ (asker < mostCards) × (homeOrCard mostCards (home .owner) ≡ true) ⌝ }
-    ensures { λ r. ⌜ ((B : Block) → HomeIs B home → r ≡ sharersAfter GetsGranted B asker) ⌝ }
+    ensures { λ r. ⌜ ((B : Block) → HomeIs B home → r ≡ upshotOf GetsGranted .sharers B asker) ⌝ }
 {
     if home.owner == HOME {
-        home.sharers | only(asker)
+        union(home.sharers, only(asker))
     } else {
-        only(home.owner) | only(asker)
+        union(only(home.owner), only(asker))
     }
 }
 
@@ -57,7 +59,7 @@ fn sharers_with(home: Home, asker: u8) -> u8
 pub(crate) fn home_after(turn: Turn, home: Home, asker: u8, put: u32, gives: u32) -> Home
     requires { ⌜ (asker < mostCards) × (homeOrCard mostCards (home .owner) ≡ true) ⌝ }
     ensures { λ r. ⌜ ((B : Block) → HomeIs B home → B .cell asker .value ≡ put → given B ≡ gives
-        → (r .memory ≡ memoryAfter turn B asker) × (r .owner ≡ ownerAfter turn B asker) × (r .sharers ≡ sharersAfter turn B asker)) ⌝ }
+        → HomeAfter turn B asker r) ⌝ }
 {
     match turn {
         Turn::GetsGranted => Home {
@@ -83,9 +85,9 @@ pub(crate) fn home_after(turn: Turn, home: Home, asker: u8, put: u32, gives: u32
 
 // A grant's message joins the pool.
 pub(crate) fn pool_after(s: &mut [u64; WORDS], turn: Turn, message: Message)
-    requires { ⌜ (grants turn ≡ true → pooledOf (now s) < room) ⌝ }
-    ensures { λ _. ⌜ ((c : Chassis) (B : Block) → now (s .entry) ≡ words c → ((request : Request) (n : ℕ) → dataFor B request n ≡ message
-        → now (s .exit) ≡ words (poolChanged c (c .pool ++ sent turn B request n)))) ⌝ }
+    requires { ⌜ (upshotOf turn .outcome ≡ granted → pooledOf (now s) < room) ⌝ }
+    ensures { λ _. ⌜ ((c : Chassis) (B : Block) → now (s .entry) ≡ words c → ((request : Request) (n : OrderNo) → dataFor B request n ≡ message
+        → now (s .exit) ≡ words (poolChanged c (c .pool ++ upshotOf turn .sent B request n)))) ⌝ }
 {
     match turn {
         Turn::GetsGranted | Turn::GetxGranted => push_message(s, message),
@@ -96,41 +98,41 @@ pub(crate) fn pool_after(s: &mut [u64; WORDS], turn: Turn, message: Message)
 // The line
 
 // The mask that home makes for a retry: the owner, if a card, and the sharers; for the last, every card.
-fn retry_mask(cards: u64, home: Home, retry: u8) -> u8
+fn retry_mask(cards: u64, home: Home, retry: RetryNo) -> Mask
     requires { ⌜ (cards ≤ mostCards) × (homeOrCard mostCards (home .owner) ≡ true) ⌝ }
     ensures { λ r. ⌜ ((B : Block) → HomeIs B home → r ≡ retryMask cards B retry) ⌝ }
 {
-    if LAST_RETRY <= retry {
+    if LAST_RETRY <= retry.0 {
         every(cards)
     } else if home.owner == HOME {
         home.sharers
     } else {
-        only(home.owner) | home.sharers
+        union(only(home.owner), home.sharers)
     }
 }
 
 // The request again, its retry one higher.
 fn retried(cards: u64, home: Home, request: Request) -> Request
-    requires { ⌜ (cards ≤ mostCards) × (homeOrCard mostCards (home .owner) ≡ true) × (request .retry .0 ≤ lastRetry) ⌝ }
+    requires { ⌜ (cards ≤ mostCards) × (homeOrCard mostCards (home .owner) ≡ true) × (request .retry .0 ≤ lastRetry .0) ⌝ }
     ensures { λ r. ⌜ ((B : Block) → HomeIs B home → r ≡ retried cards B request) ⌝ }
 {
     let before = request.retry;
-    let retry = before.0 + 1;
+    let retry = RetryNo(before.0 + 1);
     Request {
         card: request.card,
         block: request.block,
         kind: request.kind,
         mask: retry_mask(cards, home, retry),
-        retry: RetryNo(retry),
+        retry,
     }
 }
 
 // The head leaves the line; where its mask was too small it joins the tail again.
 pub(crate) fn line_after(s: &mut [u64; WORDS], turn: Turn, home: Home, request: Request)
     requires { ⌜ (0 < waitingOf (now s)) × (waitingOf (now s) ≤ room) × (cardsOf (now s) ≤ mostCards) × (homeOrCard mostCards (home .owner) ≡ true)
-        × (request .retry .0 ≤ lastRetry) × ((c : Chassis) × (now s ≡ words c)) ⌝ }
+        × (request .retry .0 ≤ lastRetry .0) × ((c : Chassis) × (now s ≡ words c)) ⌝ }
     ensures { λ _. ⌜ ((c : Chassis) (B : Block) → now (s .entry) ≡ words c → HomeIs B home
-        → now (s .exit) ≡ words (lineChanged c (removed 0 (c .line) ++ again turn (c .cards) B request))) ⌝ }
+        → now (s .exit) ≡ words (lineChanged c (removed 0 (c .line) ++ upshotOf turn .again (c .cards) B request))) ⌝ }
 {
     let next = retried(cards(s), home, request);
     remove_request(s, 0);

@@ -4,22 +4,23 @@ use mathlib.Core.Path.{_≡_, refl, sym, ap, _∙_}
 use mathlib.Core.List.{List}
 use mathlib.Core.Logic.{_≢_}
 use borrow.Author.Tests.{ne-eqb}
-use Rattle.rules.specs.declared.kinds.Event.the-variants.{Load, Store, Drop, Ask, Order, Deliver, Copy, Rejoin}
+use Rattle.rules.specs.declared.Event.the-variants.{Load, Store, Drop, Ask, Order, Deliver, Copy, Rejoin}
 use Rattle.journal.specs.Records.{openingTag, loadTag, storeTag, askTag, dropTag, orderTag, deliverTag, copyTag, rejoinTag, bytesOf}
 use Rattle.journal.specs.Reading.{damageNo, placeAfter, readAt}
 use Rattle.journal.specs.Writing.{writtenNo, placeWritten, Puts}
-use Rattle.journal.specs.declared.kinds.Damage.the-variants.{UnknownTag}
-use Rattle.journal.specs.declared.kinds.Found.{Found}
-use Rattle.journal.specs.declared.kinds.Record.{Record}
-use Rattle.journal.specs.declared.kinds.Record.the-variants.{Opening, Happens}
-use Rattle.journal.specs.declared.kinds.Written.{Written}
+use Rattle.journal.specs.declared.Damage.the-variants.{UnknownTag}
+use Rattle.journal.specs.declared.Found.{Found}
+use Rattle.journal.specs.declared.Record.{Record}
+use Rattle.journal.specs.declared.Record.the-variants.{Opening, Happens}
+use Rattle.journal.specs.declared.Written.{Written}
 use Rattle.engine.specs.Running.{Runs}
 use Rattle.engine.specs.declared.run.Ran.{Ran}
 use Rattle.firmware.specs.Halves.{half}
-use Rattle.firmware.specs.Fields.{fields, named, Fields-name}
+use Rattle.firmware.specs.Fields.{fields, named}
 use Rattle.firmware.specs.Journals.{foundNumber, fieldsAfter, Reads, Writes, reachedIn, ranNumber, standingAfter, RunSays}
-use Rattle.firmware.specs.declared.fields.Named.{Named}
-use Rattle.firmware.specs.declared.fields.Named.the-variants.{One, Unknown}
+use Rattle.firmware.specs.Claims.{Fields-name}
+use Rattle.firmware.specs.declared.Named.{Named}
+use Rattle.firmware.specs.declared.Named.the-variants.{One, Unknown}
 
 -- the fields of a record, once it is known which one
 pub fields-for : (l : List ℕ) (x y : Record) → x ≡ y → l ≡ fields y → l ≡ fields x

@@ -1,13 +1,14 @@
 -- The header's sizes are those of the definitions.
 use mathlib.Core.Path.{refl, _≡_}
 use lib.ListN.{length}
-use Rattle.rules.specs.declared.kinds.Event.the-variants.{Load, Store, Drop, Ask, Order, Deliver, Copy, Rejoin}
-use Rattle.journal.specs.declared.kinds.Record.{Record}
-use Rattle.journal.specs.declared.kinds.Record.the-variants.{Opening, Happens}
-use Rattle.firmware.specs.Fields as Fields
-use Rattle.firmware.specs.Sizes.{fields, Sizes-hold}
+use Rattle.rules.specs.declared.Event.the-variants.{Load, Store, Drop, Ask, Order, Deliver, Copy, Rejoin}
+use Rattle.journal.specs.declared.Record.{Record}
+use Rattle.journal.specs.declared.Record.the-variants.{Opening, Happens}
+use Rattle.firmware.specs.Fields.{fields}
+use Rattle.firmware.specs.Sizes.{headerFields}
+use Rattle.firmware.specs.Claims.{Sizes-hold}
 
-all-fields : (r : Record) → length (Fields.fields r) ≡ fields
+all-fields : (r : Record) → length (fields r) ≡ headerFields
 all-fields (Opening cards blocks) = refl
 all-fields (Happens (Load k b)) = refl
 all-fields (Happens (Store k b v)) = refl

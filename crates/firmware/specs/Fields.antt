@@ -3,15 +3,13 @@
 use Prim.Native.Nat.{ℕ}
 use mathlib.Core.Bool.{cond}
 use mathlib.Core.List.{List, [], _∷_}
-use mathlib.Core.Path.{_≡_}
 use lib.Dec.{eqb}
-use lib.ListN.{getD}
-use Rattle.rules.specs.declared.kinds.Event.the-variants.{Load, Store, Drop, Ask, Order, Deliver, Copy, Rejoin}
+use Rattle.rules.specs.declared.Event.the-variants.{Load, Store, Drop, Ask, Order, Deliver, Copy, Rejoin}
 use Rattle.journal.specs.Records.{openingTag, loadTag, storeTag, askTag, dropTag, orderTag, deliverTag, copyTag, rejoinTag}
-use Rattle.journal.specs.declared.kinds.Record.{Record}
-use Rattle.journal.specs.declared.kinds.Record.the-variants.{Opening, Happens}
-use Rattle.firmware.specs.declared.fields.Named.{Named}
-use Rattle.firmware.specs.declared.fields.Named.the-variants.{One, Unknown}
+use Rattle.journal.specs.declared.Record.{Record}
+use Rattle.journal.specs.declared.Record.the-variants.{Opening, Happens}
+use Rattle.firmware.specs.declared.Named.{Named}
+use Rattle.firmware.specs.declared.Named.the-variants.{One, Unknown}
 
 abbrev pub fields : Record → List ℕ
 fields (Opening cards blocks) = openingTag ∷ cards ∷ blocks ∷ 0 ∷ 0 ∷ 0 ∷ 0 ∷ []
@@ -37,8 +35,3 @@ named tag card block kind mask value position =
     (cond (eqb tag copyTag) (One (Happens (Copy position)))
     (cond (eqb tag rejoinTag) (One (Happens (Rejoin card)))
     Unknown))))))))
-
--- what is claimed of both: the numbers of a record name it again, each in its place
-abbrev pub Fields-name : Type 0
-Fields-name = (r : Record) → let l = fields r in
-    named (getD l 0 0) (getD l 1 0) (getD l 2 0) (getD l 3 0) (getD l 4 0) (getD l 5 0) (getD l 6 0) ≡ One r

@@ -7,18 +7,18 @@ use Rattle.rules.specs.Answers.{refusalNo}
 use Rattle.journal.specs.Records.{bytesOf}
 use Rattle.journal.specs.Reading.{damageNo, placeAfter, readAt}
 use Rattle.journal.specs.Writing.{writtenNo, placeWritten, Puts}
-use Rattle.journal.specs.declared.kinds.Damage.the-variants.{UnknownTag}
-use Rattle.journal.specs.declared.kinds.Found.{Found}
-use Rattle.journal.specs.declared.kinds.Found.the-variants.{Whole, End, Damaged}
-use Rattle.journal.specs.declared.kinds.Written.{Written}
+use Rattle.journal.specs.declared.Damage.the-variants.{UnknownTag}
+use Rattle.journal.specs.declared.Found.{Found}
+use Rattle.journal.specs.declared.Found.the-variants.{Whole, End, Damaged}
+use Rattle.journal.specs.declared.Written.{Written}
 use Rattle.engine.specs.Running.{Runs}
 use Rattle.engine.specs.declared.run.Reached.{Reached}
 use Rattle.engine.specs.declared.run.Ran.{Ran}
 use Rattle.engine.specs.declared.run.Ran.the-variants.{More, Over, Refused}
 use Rattle.firmware.specs.Halves.{half}
 use Rattle.firmware.specs.Fields.{fields}
-use Rattle.firmware.specs.declared.fields.Named.{Named}
-use Rattle.firmware.specs.declared.fields.Named.the-variants.{One, Unknown}
+use Rattle.firmware.specs.declared.Named.{Named}
+use Rattle.firmware.specs.declared.Named.the-variants.{One, Unknown}
 
 -- Reading
 

@@ -3,3 +3,4 @@ pub mod Halves
 pub mod Fields
 pub mod Journals
 pub mod Sizes
+pub mod Claims

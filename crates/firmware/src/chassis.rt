@@ -1,9 +1,9 @@
 // Start and the events, on words that C lends: each answers the number of the engine's answer.
-use crate::halves::number;
+use crate::halves::one_number;
 use engine::events;
-use engine::layout::WORDS;
 use engine::start::start_in;
-ghost use Rattle.rules.specs.declared.kinds.Event.the-variants.{Load, Store, Drop, Ask, Order, Deliver, Copy, Rejoin};
+use words::layout::WORDS;
+ghost use Rattle.rules.specs.declared.Event.the-variants.{Load, Store, Drop, Ask, Order, Deliver, Copy, Rejoin};
 ghost use Rattle.engine.specs.Promise.{Starts, Answers};
 ghost use Rattle.firmware.specs.Halves.{Says};
 
@@ -12,7 +12,7 @@ ghost use Rattle.firmware.specs.Halves.{Says};
 pub extern "C" fn coherence_start(state: &mut [u64; WORDS], cards: u8, blocks: u8) -> u64
     ensures { λ n. ⌜ Says (λ r. Starts cards blocks r (now (state .exit))) n ⌝ }
 {
-    number(start_in(state, cards, blocks))
+    one_number(start_in(state, cards, blocks))
 }
 
 // A card reads its cell's value.
@@ -20,7 +20,7 @@ pub extern "C" fn coherence_start(state: &mut [u64; WORDS], cards: u8, blocks: u
 pub extern "C" fn coherence_load(state: &mut [u64; WORDS], card: u8, block: u8) -> u64
     ensures { λ n. ⌜ Says (λ r. Answers (now (state .entry)) (Load card block) r (now (state .exit))) n ⌝ }
 {
-    number(events::load(state, card, block))
+    one_number(events::load(state, card, block))
 }
 
 // A card writes its cell's value.
@@ -28,7 +28,7 @@ pub extern "C" fn coherence_load(state: &mut [u64; WORDS], card: u8, block: u8) 
 pub extern "C" fn coherence_store(state: &mut [u64; WORDS], card: u8, block: u8, value: u32) -> u64
     ensures { λ n. ⌜ Says (λ r. Answers (now (state .entry)) (Store card block value) r (now (state .exit))) n ⌝ }
 {
-    number(events::store(state, card, block, value))
+    one_number(events::store(state, card, block, value))
 }
 
 // A card drops its copy, and home is not told.
@@ -36,7 +36,7 @@ pub extern "C" fn coherence_store(state: &mut [u64; WORDS], card: u8, block: u8,
 pub extern "C" fn coherence_drop(state: &mut [u64; WORDS], card: u8, block: u8) -> u64
     ensures { λ n. ⌜ Says (λ r. Answers (now (state .entry)) (Drop card block) r (now (state .exit))) n ⌝ }
 {
-    number(events::drop(state, card, block))
+    one_number(events::drop(state, card, block))
 }
 
 // A card's request joins the line; the mask names the cards that are to see it.
@@ -50,7 +50,7 @@ pub extern "C" fn coherence_ask(
 ) -> u64
     ensures { λ n. ⌜ Says (λ r. Answers (now (state .entry)) (Ask card block kind mask) r (now (state .exit))) n ⌝ }
 {
-    number(events::ask(state, card, block, kind, mask))
+    one_number(events::ask(state, card, block, kind, mask))
 }
 
 // The request at the head of the line has its turn.
@@ -58,7 +58,7 @@ pub extern "C" fn coherence_ask(
 pub extern "C" fn coherence_order(state: &mut [u64; WORDS]) -> u64
     ensures { λ n. ⌜ Says (λ r. Answers (now (state .entry)) Order r (now (state .exit))) n ⌝ }
 {
-    number(events::order(state))
+    one_number(events::order(state))
 }
 
 // A message of the pool reaches its receiver.
@@ -66,7 +66,7 @@ pub extern "C" fn coherence_order(state: &mut [u64; WORDS]) -> u64
 pub extern "C" fn coherence_deliver(state: &mut [u64; WORDS], position: u8) -> u64
     ensures { λ n. ⌜ Says (λ r. Answers (now (state .entry)) (Deliver position) r (now (state .exit))) n ⌝ }
 {
-    number(events::deliver(state, position))
+    one_number(events::deliver(state, position))
 }
 
 // A message of the pool is there once more.
@@ -74,7 +74,7 @@ pub extern "C" fn coherence_deliver(state: &mut [u64; WORDS], position: u8) -> u
 pub extern "C" fn coherence_copy(state: &mut [u64; WORDS], position: u8) -> u64
     ensures { λ n. ⌜ Says (λ r. Answers (now (state .entry)) (Copy position) r (now (state .exit))) n ⌝ }
 {
-    number(events::copy(state, position))
+    one_number(events::copy(state, position))
 }
 
 // A card starts anew: out of the line and the sharers, its blocks to home, its cells I.
@@ -82,5 +82,5 @@ pub extern "C" fn coherence_copy(state: &mut [u64; WORDS], position: u8) -> u64
 pub extern "C" fn coherence_rejoin(state: &mut [u64; WORDS], card: u8) -> u64
     ensures { λ n. ⌜ Says (λ r. Answers (now (state .entry)) (Rejoin card) r (now (state .exit))) n ⌝ }
 {
-    number(events::rejoin(state, card))
+    one_number(events::rejoin(state, card))
 }

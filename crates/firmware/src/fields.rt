@@ -1,6 +1,7 @@
 // A record as seven numbers: its tag, card, block, kind, mask, value and position. What a record has not is 0; an opening's cards and
 // blocks stand in the places of a card and a block.
-use journal::kinds::Record;
+use crate::Named;
+use journal::Record;
 use journal::tags::ASK;
 use journal::tags::COPY;
 use journal::tags::DELIVER;
@@ -10,20 +11,14 @@ use journal::tags::OPENING;
 use journal::tags::ORDER;
 use journal::tags::REJOIN;
 use journal::tags::STORE;
-use rules::kinds::Event;
+use rules::Event;
 ghost use mathlib.Core.Path.{_≡_};
 ghost use mathlib.Core.List.{_∷_, []};
-ghost use Rattle.journal.specs.declared.kinds.Record.the-variants.{Happens};
+ghost use Rattle.journal.specs.declared.Record.the-variants.{Happens};
 ghost use Rattle.firmware.specs.Fields.{fields, named};
 
 // How many numbers a record has.
 pub(crate) const FIELDS: usize = 7;
-
-// The record that numbers name, or none, where no record has the tag.
-pub(crate) enum Named {
-    One(Record),
-    Unknown,
-}
 
 // The numbers of a record.
 pub(crate) fn fields_of(one: Record) -> [u64; FIELDS]

@@ -1,22 +1,22 @@
 // Journals: one record read, one written, and a run that writes its lines into a text that C lends.
+use crate::Named;
 use crate::fields::FIELDS;
-use crate::fields::Named;
 use crate::fields::fields_of;
 use crate::fields::record_of;
 use crate::halves::refused;
-use engine::layout::WORDS;
 use engine::run::Ran;
 use engine::run::Reached;
 use engine::run::run;
-use journal::kinds::Damage;
-use journal::kinds::Found;
-use journal::kinds::Written;
+use journal::Damage;
+use journal::Found;
+use journal::Written;
 use journal::numbers::damage_no;
 use journal::numbers::refusal_no;
 use journal::numbers::written_no;
 use journal::reading::place_after;
 use journal::reading::read;
 use journal::writing::write;
+use words::layout::WORDS;
 ghost use Rattle.firmware.specs.Fields.{named};
 ghost use Rattle.firmware.specs.Journals.{Reads, Writes, RunSays};
 

@@ -1,5 +1,13 @@
 // The engine for C: numbers and pointers only, total over any input. include/coherence.h declares these functions.
-mod chassis;
+pub mod chassis;
 mod fields;
 mod halves;
-mod journals;
+pub mod journals;
+
+use journal::Record;
+
+// The record that numbers name, or none, where no record has the tag.
+pub enum Named {
+    One(Record),
+    Unknown,
+}

@@ -10,10 +10,10 @@ use Rattle.rules.specs.Lists.{keep, All}
 use Rattle.rules.specs.Masks.{only, without}
 use Rattle.rules.specs.Numbers.{home, I, none}
 use Rattle.rules.specs.Table.{stores, drops, waits, asked}
-use Rattle.rules.specs.Chassis.{Block, idle, goes, withCell}
-use Rattle.rules.specs.Events.{storing, takes, rejoinBlock}
-use Rattle.rules.specs.declared.kinds.Cell.{Cell}
-use Rattle.rules.specs.declared.kinds.Message.{Message}
+use Rattle.rules.specs.Chassis.{Block, idle, goes, storing, withCell}
+use Rattle.rules.specs.Events.{takes, rejoinBlock}
+use Rattle.rules.specs.declared.Cell.{Cell}
+use Rattle.rules.specs.declared.Message.{Message}
 use Rattle.rules.proofs.Tests.{clash, test, cond-cases, false-if}
 use Rattle.rules.proofs.Lists.{replace-cases, replace-same, All-map, All-keep}
 use Rattle.rules.proofs.Masks.{has-without-other}

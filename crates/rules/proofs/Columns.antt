@@ -11,7 +11,7 @@ use lib.Dec.{ltb, leb}
 use borrow.Author.Tests.{ltb-true, ltb-false, leb-true, ne-eqb}
 use Rattle.rules.specs.Tests.{oneOf, allOf}
 use Rattle.rules.specs.Numbers.{gets, getx, putx, states, none}
-use Rattle.rules.specs.Table.{rows, rowOf}
+use Rattle.rules.specs.Table.{cardTable, rowOf}
 use Rattle.rules.proofs.Tests.{test, and-l, and-r}
 
 module _ {A : Type 0} where
@@ -38,8 +38,8 @@ module _ {A : Type 0} where
 
 -- beyond the last state a row is empty, and a state is none that the rules name
 pub row-beyond : (s : ℕ) → states ≤ s → rowOf s ≡ rowOf states
-unfolding rowOf rows
-row-beyond s l = List·getD-eq-default rows _ l
+unfolding rowOf cardTable
+row-beyond s l = List·getD-eq-default cardTable _ l
 
 pub named-beyond : (ms : List ℕ) → allOf ms (λ m. ltb m states) ≡ true → (s : ℕ) → states ≤ s → oneOf ms s ≡ false
 unfolding oneOf allOf

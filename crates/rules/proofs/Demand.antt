@@ -12,19 +12,19 @@ use Rattle.rules.specs.Lists.{All}
 use Rattle.rules.specs.Numbers.{home, granted, putTaken}
 use Rattle.rules.specs.Table.{loads, stores}
 use Rattle.rules.specs.Chassis.{Chassis, cellOf, stateOf, fresh}
-use Rattle.rules.specs.Answers.{refusalNo, Result}
+use Rattle.rules.specs.Answers.{refusalNo, Result, NoneHolds}
 use Rattle.rules.specs.Order.{orderReasons}
 use Rattle.rules.specs.Formed.{wellFormed}
 use Rattle.rules.specs.Events.{noCard, noBlock, rightReasons, noMessage, reasons, effect, step}
-use Rattle.rules.specs.History.{Did, loaded, settles, quiet, headBlock, didAccepted, did, Run, run, written}
+use Rattle.rules.specs.History.{Did, loaded, settles, quiet, headBlock, didAccepted, did, Run, run, stories}
 use Rattle.rules.specs.Demand.{Coherent}
-use Rattle.rules.specs.Claims.{Demand-3}
-use Rattle.rules.specs.declared.kinds.Request.{Request}
-use Rattle.rules.specs.declared.kinds.Answer.{Answer}
-use Rattle.rules.specs.declared.kinds.Answer.the-variants.{Done, Refused}
-use Rattle.rules.specs.declared.kinds.Refusal.the-variants.{Impossible, IllFormed}
-use Rattle.rules.specs.declared.kinds.Event.{Event}
-use Rattle.rules.specs.declared.kinds.Event.the-variants.{
+use Rattle.rules.specs.Claims.{Rules-coherent}
+use Rattle.rules.specs.declared.Request.{Request}
+use Rattle.rules.specs.declared.Answer.{Answer}
+use Rattle.rules.specs.declared.Answer.the-variants.{Done, Refused}
+use Rattle.rules.specs.declared.Refusal.the-variants.{Impossible, IllFormed}
+use Rattle.rules.specs.declared.Event.{Event}
+use Rattle.rules.specs.declared.Event.the-variants.{
   Load,
   Store,
   Drop,
@@ -43,7 +43,6 @@ use Rattle.rules.proofs.Holders.{held-not, possible, loader-only, load-
 use Rattle.rules.proofs.Stores.{LoadOk, Past, past-empty, past-more, struck-unseen}
 use Rattle.rules.proofs.Refusals.{
   accepted-none,
-  None,
   refused-cases,
   effect-done,
   Never,
@@ -91,7 +90,7 @@ module _ {c : Chassis} {log : List Did} (inv : Inv c log) where
   other-ok e h (Done v) = h v
   other-ok e h (Refused r) = tt
 
-  effect-loads : (e : Event) → None (reasons c e) → LoadOk log (did c e (effect c e .answer))
+  effect-loads : (e : Event) → NoneHolds (reasons c e) → LoadOk log (did c e (effect c e .answer))
   unfolding reasons rightReasons effect did didAccepted
   effect-loads (Load k b) h = loaded-ok k b (not-false (loads (stateOf c k b)) (h .1 .1 .0))
   effect-loads (Store k b v) h = tt
@@ -188,7 +187,7 @@ coherent : (r : Run) → Good r → Coherent r
 coherent r g = record {
   loads-last = g .past .loads-last;
   struck-by-rejoin = g .past .struck-ok;
-  struck-unseen = All-map struck-unseen (written (r .log)) (g .past .unseen);
+  struck-unseen = All-map struck-unseen (stories (r .log)) (g .past .unseen);
   one-storer = λ j k b v u x y ne h. let s = store-right (r .now) j b v x h in (
     (λ q. ne (loader-only (g .inv .blocks-ok b) (g .inv .few) j k s (load-right (r .now) k b y q))),
     (λ q. ne (one-storer (g .inv .blocks-ok b) j k s (store-right (r .now) k b u y q))),
@@ -197,8 +196,8 @@ coherent r g = record {
   never-ill-formed = never-ill-formed (r .now) (g .formed);
 }
 
-pub demand-3 : Demand-3
-demand-3 cards blocks v = start-cases cards blocks
+pub rules-coherent : Rules-coherent
+rules-coherent cards blocks v = start-cases cards blocks
     (λ o. o .answer ≡ Done v → (es : List Event) → Coherent (run (o .after) es))
     (λ h _ es. coherent _ (run-good (fresh cards blocks)
     (fresh-ok cards blocks (let f = sizes→ cards blocks h .few-cards in omega arith)) (fresh-formed cards blocks h) es))

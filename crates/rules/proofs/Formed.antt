@@ -10,7 +10,21 @@ use borrow.Author.Tests.{eqb-true, ltb-true, ltb-false, le-ltb, lt-ltb, le-leb, 
 use Rattle.rules.specs.Tests.{_⇒_, each, all, allOf}
 use Rattle.rules.specs.Lists.{All}
 use Rattle.rules.specs.Masks.{every, inside}
-use Rattle.rules.specs.Numbers.{mostCards, mostBlocks, home, room, lastRetry, gets, putx, states}
+use Rattle.rules.specs.Numbers.{
+  mostCards,
+  mostBlocks,
+  home,
+  room,
+  noNumber,
+  sameNumber,
+  upToNumber,
+  lastRetry,
+  sameRetry,
+  upToRetry,
+  gets,
+  putx,
+  states,
+}
 use Rattle.rules.specs.Table.{loads, waits}
 use Rattle.rules.specs.Chassis.{Block, Chassis, idle, goes, goesFor}
 use Rattle.rules.specs.Formed.{
@@ -24,42 +38,43 @@ use Rattle.rules.specs.Formed.{
   okMessage,
   wellFormed,
 }
-use Rattle.rules.specs.declared.kinds.Cell.{Cell}
-use Rattle.rules.specs.declared.kinds.Request.{Request}
-use Rattle.rules.specs.declared.kinds.Message.{Message}
+use Rattle.rules.specs.declared.OrderNo.{OrderNo}
+use Rattle.rules.specs.declared.Cell.{Cell}
+use Rattle.rules.specs.declared.Request.{Request}
+use Rattle.rules.specs.declared.Message.{Message}
 use Rattle.rules.proofs.Tests.{test, cond-cases, each→, →each, all-elim, all-intro, allOf→, →allOf}
 
 -- Cells
 
-pub record CellWf (last : ℕ) (x : Cell) : Type 0 where
+pub record CellWf (last : OrderNo) (x : Cell) : Type 0 where
   pub code : x .state < states
-  pub given : x .awaits .0 ≤ last
-  pub awaited : (waits (x .state) ⇒ not (eqb (x .awaits .0) 0)) ≡ true
-  pub unawaited : (not (waits (x .state)) ⇒ eqb (x .awaits .0) 0) ≡ true
+  pub given : x .awaits .0 ≤ last .0
+  pub awaited : (waits (x .state) ⇒ not (sameNumber (x .awaits) noNumber)) ≡ true
+  pub unawaited : (not (waits (x .state)) ⇒ sameNumber (x .awaits) noNumber) ≡ true
   pub unloaded : (not (loads (x .state)) ⇒ eqb (x .value) 0) ≡ true
 
-pub cell→ : (last : ℕ) (x : Cell) → okCell last x ≡ true → CellWf last x
+pub cell→ : (last : OrderNo) (x : Cell) → okCell last x ≡ true → CellWf last x
 unfolding okCell
 cell→ last x h =
-    let t = each→ (ltb (x .state) states ∷ leb (x .awaits .0) last ∷ _ ∷ _ ∷ _ ∷ []) h in
+    let t = each→ (ltb (x .state) states ∷ upToNumber (x .awaits) last ∷ _ ∷ _ ∷ _ ∷ []) h in
     record {
       code = ltb-true (x .state) states (t .0);
-      given = leb-true (x .awaits .0) last (t .1 .0);
+      given = leb-true (x .awaits .0) (last .0) (t .1 .0);
       awaited = t .1 .1 .0;
       unawaited = t .1 .1 .1 .0;
       unloaded = t .1 .1 .1 .1 .0;
     }
 
-pub →cell : (last : ℕ) (x : Cell) → CellWf last x → okCell last x ≡ true
+pub →cell : (last : OrderNo) (x : Cell) → CellWf last x → okCell last x ≡ true
 unfolding okCell
 →cell last x h = →each _ (
   lt-ltb (x .state) states (h .code),
-  (le-leb (x .awaits .0) last (h .given), (h .awaited, (h .unawaited, (h .unloaded, tt)))),
+  (le-leb (x .awaits .0) (last .0) (h .given), (h .awaited, (h .unawaited, (h .unloaded, tt)))),
 )
 
 -- a cell that goes to a state
-pub goesFor-wf : (last n s : ℕ) (x : Cell) → s < states → n ≤ last → (waits s ⇒ not (eqb n 0)) ≡ true
-    → (not (waits s) ⇒ eqb n 0) ≡ true → CellWf last (goesFor n s x)
+pub goesFor-wf : (last n : OrderNo) (s : ℕ) (x : Cell) → s < states → n .0 ≤ last .0 → (waits s ⇒ not (sameNumber n noNumber)) ≡ true
+    → (not (waits s) ⇒ sameNumber n noNumber) ≡ true → CellWf last (goesFor n s x)
 goesFor-wf last n s x l le p q = record {
   code = l;
   given = le;
@@ -68,15 +83,15 @@ goesFor-wf last n s x l le p q = record {
   unloaded = test (loads s) (λ e. rw e) (λ e. rw e);
 }
 
-pub goes-wf : (last s : ℕ) (x : Cell) → s < states → waits s ≡ false → CellWf last (goes s x)
-goes-wf last s x l w = goesFor-wf last 0 s x l (omega arith) (rw w) (rw w)
+pub goes-wf : (last : OrderNo) (s : ℕ) (x : Cell) → s < states → waits s ≡ false → CellWf last (goes s x)
+goes-wf last s x l w = goesFor-wf last noNumber s x l (omega arith) (rw w) (rw w)
 
-pub idle-wf : (last : ℕ) → CellWf last idle
+pub idle-wf : (last : OrderNo) → CellWf last idle
 unfolding waits loads
 idle-wf last = record { code = omega arith; given = omega arith; awaited = refl; unawaited = refl; unloaded = refl }
 
 -- more order numbers are given
-pub grow : (last last′ : ℕ) (x : Cell) → last ≤ last′ → CellWf last x → CellWf last′ x
+pub grow : (last last′ : OrderNo) (x : Cell) → last .0 ≤ last′ .0 → CellWf last x → CellWf last′ x
 grow last last′ x le h = record {
   code = h .code;
   given = let g = h .given in omega arith;
@@ -102,20 +117,20 @@ idle-unused = refl
 -- Blocks
 
 -- a cell is well formed where a card is there, and unused where none is
-pub record Place (cards last k : ℕ) (x : Cell) : Type 0 where
+pub record Place (cards : ℕ) (last : OrderNo) (k : ℕ) (x : Cell) : Type 0 where
   pub used : k < cards → CellWf last x
   pub unused : cards ≤ k → unusedCell x ≡ true
 
-pub record BlockWf (cards last : ℕ) (B : Block) : Type 0 where
+pub record BlockWf (cards : ℕ) (last : OrderNo) (B : Block) : Type 0 where
   pub owner : homeOrCard cards (B .owner) ≡ true
   pub sharers : inside cards (B .sharers) ≡ true
   pub places : (k : ℕ) → k < mostCards → Place cards last k (B .cell k)
 
 -- the test of a place
-abbrev placeTest : ℕ → ℕ → Block → ℕ → Bool
+abbrev placeTest : ℕ → OrderNo → Block → ℕ → Bool
 placeTest cards last B k = cond (ltb k cards) (okCell last (B .cell k)) (unusedCell (B .cell k))
 
-pub block→ : (cards last : ℕ) (B : Block) → okBlock cards last B ≡ true → BlockWf cards last B
+pub block→ : (cards : ℕ) (last : OrderNo) (B : Block) → okBlock cards last B ≡ true → BlockWf cards last B
 unfolding okBlock
 block→ cards last B h =
     let t = each→ (homeOrCard cards (B .owner) ∷ inside cards (B .sharers) ∷ all mostCards (placeTest cards last B) ∷ []) h in
@@ -129,7 +144,7 @@ block→ cards last B h =
       };
     }
 
-pub →block : (cards last : ℕ) (B : Block) → BlockWf cards last B → okBlock cards last B ≡ true
+pub →block : (cards : ℕ) (last : OrderNo) (B : Block) → BlockWf cards last B → okBlock cards last B ≡ true
 unfolding okBlock
 →block cards last B h = →each _ (
   h .owner,
@@ -145,7 +160,7 @@ unfolding okBlock
   ),
 )
 
-pub grow-block : (cards last last′ : ℕ) (B : Block) → last ≤ last′ → BlockWf cards last B → BlockWf cards last′ B
+pub grow-block : (cards : ℕ) (last last′ : OrderNo) (B : Block) → last .0 ≤ last′ .0 → BlockWf cards last B → BlockWf cards last′ B
 grow-block cards last last′ B le h = record {
   owner = h .owner;
   sharers = h .sharers;
@@ -194,21 +209,21 @@ pub record RequestWf (cards blocks : ℕ) (r : Request) : Type 0 where
   pub low : gets ≤ r .kind
   pub high : r .kind ≤ putx
   pub mask : inside cards (r .mask) ≡ true
-  pub retry : r .retry .0 ≤ lastRetry
-  pub full : (eqb (r .retry .0) lastRetry ⇒ eqb (r .mask) (every cards)) ≡ true
+  pub retry : r .retry .0 ≤ lastRetry .0
+  pub full : (sameRetry (r .retry) lastRetry ⇒ eqb (r .mask) (every cards)) ≡ true
 
 pub request→ : (cards blocks : ℕ) (r : Request) → okRequest cards blocks r ≡ true → RequestWf cards blocks r
 unfolding okRequest
 request→ cards blocks r h =
     let t = each→ (ltb (r .card) cards ∷ ltb (r .block) blocks ∷ leb gets (r .kind) ∷ leb (r .kind) putx
-    ∷ inside cards (r .mask) ∷ leb (r .retry .0) lastRetry ∷ _ ∷ []) h in
+    ∷ inside cards (r .mask) ∷ upToRetry (r .retry) lastRetry ∷ _ ∷ []) h in
     record {
       card = ltb-true (r .card) cards (t .0);
       block = ltb-true (r .block) blocks (t .1 .0);
       low = leb-true gets (r .kind) (t .1 .1 .0);
       high = leb-true (r .kind) putx (t .1 .1 .1 .0);
       mask = t .1 .1 .1 .1 .0;
-      retry = leb-true (r .retry .0) lastRetry (t .1 .1 .1 .1 .1 .0);
+      retry = leb-true (r .retry .0) (lastRetry .0) (t .1 .1 .1 .1 .1 .0);
       full = t .1 .1 .1 .1 .1 .1 .0;
     }
 
@@ -224,44 +239,44 @@ unfolding okRequest
         le-leb (r .kind) putx (h .high),
         (
           h .mask,
-          (le-leb (r .retry .0) lastRetry (h .retry), (h .full, tt)),
+          (le-leb (r .retry .0) (lastRetry .0) (h .retry), (h .full, tt)),
         ),
       ),
     ),
   ),
 )
 
-pub record MessageWf (cards blocks last : ℕ) (m : Message) : Type 0 where
+pub record MessageWf (cards blocks : ℕ) (last : OrderNo) (m : Message) : Type 0 where
   pub sender : homeOrCard cards (m .sender) ≡ true
   pub receiver : m .receiver < cards
   pub block : m .block < blocks
-  pub numbered : not (eqb (m .number .0) 0) ≡ true
-  pub given : m .number .0 ≤ last
+  pub numbered : not (sameNumber (m .number) noNumber) ≡ true
+  pub given : m .number .0 ≤ last .0
 
-pub message→ : (cards blocks last : ℕ) (m : Message) → okMessage cards blocks last m ≡ true → MessageWf cards blocks last m
+pub message→ : (cards blocks : ℕ) (last : OrderNo) (m : Message) → okMessage cards blocks last m ≡ true → MessageWf cards blocks last m
 unfolding okMessage
 message→ cards blocks last m h =
     let t = each→ (homeOrCard cards (m .sender) ∷ ltb (m .receiver) cards ∷ ltb (m .block) blocks
-    ∷ not (eqb (m .number .0) 0) ∷ leb (m .number .0) last ∷ []) h in
+    ∷ not (sameNumber (m .number) noNumber) ∷ upToNumber (m .number) last ∷ []) h in
     record {
       sender = t .0;
       receiver = ltb-true (m .receiver) cards (t .1 .0);
       block = ltb-true (m .block) blocks (t .1 .1 .0);
       numbered = t .1 .1 .1 .0;
-      given = leb-true (m .number .0) last (t .1 .1 .1 .1 .0);
+      given = leb-true (m .number .0) (last .0) (t .1 .1 .1 .1 .0);
     }
 
-pub →message : (cards blocks last : ℕ) (m : Message) → MessageWf cards blocks last m → okMessage cards blocks last m ≡ true
+pub →message : (cards blocks : ℕ) (last : OrderNo) (m : Message) → MessageWf cards blocks last m → okMessage cards blocks last m ≡ true
 unfolding okMessage
 →message cards blocks last m h = →each _ (
   h .sender,
   (
     lt-ltb (m .receiver) cards (h .receiver),
-    (lt-ltb (m .block) blocks (h .block), (h .numbered, (le-leb (m .number .0) last (h .given), tt))),
+    (lt-ltb (m .block) blocks (h .block), (h .numbered, (le-leb (m .number .0) (last .0) (h .given), tt))),
   ),
 )
 
-pub grow-message : (cards blocks last last′ : ℕ) (m : Message) → last ≤ last′ → okMessage cards blocks last m ≡ true
+pub grow-message : (cards blocks : ℕ) (last last′ : OrderNo) (m : Message) → last .0 ≤ last′ .0 → okMessage cards blocks last m ≡ true
     → okMessage cards blocks last′ m ≡ true
 grow-message cards blocks last last′ m le h =
     let x = message→ cards blocks last m h in
@@ -297,19 +312,19 @@ pub record Wf (c : Chassis) : Type 0 where
   pub line-room : length (c .line) ≤ room
   pub pool-room : length (c .pool) ≤ room
   pub requests : All (λ r. okRequest (c .cards) (c .blocks) r ≡ true) (c .line)
-  pub messages : All (λ m. okMessage (c .cards) (c .blocks) (c .last .0) m ≡ true) (c .pool)
-  pub used : (b : ℕ) → b < mostBlocks → b < c .blocks → BlockWf (c .cards) (c .last .0) (c .block b)
+  pub messages : All (λ m. okMessage (c .cards) (c .blocks) (c .last) m ≡ true) (c .pool)
+  pub used : (b : ℕ) → b < mostBlocks → b < c .blocks → BlockWf (c .cards) (c .last) (c .block b)
   pub unused : (b : ℕ) → b < mostBlocks → c .blocks ≤ b → unusedBlock (c .block b) ≡ true
 
 -- the test of a block's place
 abbrev blockTest : Chassis → ℕ → Bool
-blockTest c b = cond (ltb b (c .blocks)) (okBlock (c .cards) (c .last .0) (c .block b)) (unusedBlock (c .block b))
+blockTest c b = cond (ltb b (c .blocks)) (okBlock (c .cards) (c .last) (c .block b)) (unusedBlock (c .block b))
 
 pub wf→ : (c : Chassis) → wellFormed c ≡ true → Wf c
 unfolding wellFormed
 wf→ c h =
     let t = each→ (sizes (c .cards) (c .blocks) ∷ leb (length (c .line)) room ∷ leb (length (c .pool)) room
-    ∷ allOf (c .line) (okRequest (c .cards) (c .blocks)) ∷ allOf (c .pool) (okMessage (c .cards) (c .blocks) (c .last .0))
+    ∷ allOf (c .line) (okRequest (c .cards) (c .blocks)) ∷ allOf (c .pool) (okMessage (c .cards) (c .blocks) (c .last))
     ∷ all mostBlocks (blockTest c) ∷ []) h in
     let at = all-elim mostBlocks (blockTest c) (t .1 .1 .1 .1 .1 .0) in
     record {
@@ -317,8 +332,8 @@ wf→ c h =
       line-room = leb-true (length (c .line)) room (t .1 .0);
       pool-room = leb-true (length (c .pool)) room (t .1 .1 .0);
       requests = allOf→ (okRequest (c .cards) (c .blocks)) (c .line) (t .1 .1 .1 .0);
-      messages = allOf→ (okMessage (c .cards) (c .blocks) (c .last .0)) (c .pool) (t .1 .1 .1 .1 .0);
-      used = λ b l u. block→ (c .cards) (c .last .0) (c .block b) (rw (lt-ltb b (c .blocks) u) at (at b l));
+      messages = allOf→ (okMessage (c .cards) (c .blocks) (c .last)) (c .pool) (t .1 .1 .1 .1 .0);
+      used = λ b l u. block→ (c .cards) (c .last) (c .block b) (rw (lt-ltb b (c .blocks) u) at (at b l));
       unused = λ b l u. rw (le-ltb b (c .blocks) u) at (at b l);
     }
 
@@ -333,10 +348,10 @@ unfolding wellFormed
       (
         →allOf (okRequest (c .cards) (c .blocks)) (c .line) (w .requests),
         (
-          →allOf (okMessage (c .cards) (c .blocks) (c .last .0)) (c .pool) (w .messages),
+          →allOf (okMessage (c .cards) (c .blocks) (c .last)) (c .pool) (w .messages),
           (
             all-intro mostBlocks (blockTest c) (λ b l. test (ltb b (c .blocks))
-                (λ u. rw u (→block (c .cards) (c .last .0) (c .block b) (w .used b l (ltb-true b (c .blocks) u))))
+                (λ u. rw u (→block (c .cards) (c .last) (c .block b) (w .used b l (ltb-true b (c .blocks) u))))
                 (λ u. rw u (w .unused b l (ltb-false b (c .blocks) u)))),
             tt,
           ),

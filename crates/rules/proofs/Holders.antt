@@ -11,7 +11,7 @@ use Rattle.rules.specs.Numbers.{home, I, putx}
 use Rattle.rules.specs.Table.{loads, stores, waits, canGive, comesFrom}
 use Rattle.rules.specs.Chassis.{Block}
 use Rattle.rules.specs.Order.{held, impossible, given}
-use Rattle.rules.specs.declared.kinds.Request.{Request}
+use Rattle.rules.specs.declared.Request.{Request}
 use Rattle.rules.proofs.Tests.{clash, test, false-if, →any, some-false}
 use Rattle.rules.proofs.Board.{Write, pick, here}
 use Rattle.rules.proofs.Invariant.{owns, shares, BlockOk}

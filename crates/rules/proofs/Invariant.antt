@@ -13,9 +13,10 @@ use Rattle.rules.specs.Table.{stores, comesFrom}
 use Rattle.rules.specs.Chassis.{Block, Chassis}
 use Rattle.rules.specs.Events.{live}
 use Rattle.rules.specs.History.{Did}
-use Rattle.rules.specs.declared.kinds.Cell.{Cell}
-use Rattle.rules.specs.declared.kinds.Request.{Request}
-use Rattle.rules.specs.declared.kinds.Message.{Message}
+use Rattle.rules.specs.declared.OrderNo.{OrderNo}
+use Rattle.rules.specs.declared.Cell.{Cell}
+use Rattle.rules.specs.declared.Request.{Request}
+use Rattle.rules.specs.declared.Message.{Message}
 use Rattle.rules.proofs.Board.{Write, pending, base, pick, here}
 
 -- Three more sets of states, for the proof
@@ -52,8 +53,8 @@ pub record BlockOk (cards : ℕ) (B : Block) (ws : List Write) (d : ℕ) : Type 
   pub memory-is : B .memory ≡ d
 
 -- a message that is still awaited carries memory's value; none has a number not yet given
-pub record MessageOk (last : ℕ) (B : Block) (m : Message) : Type 0 where
-  pub given : m .number .0 ≤ last
+pub record MessageOk (last : OrderNo) (B : Block) (m : Message) : Type 0 where
+  pub given : m .number .0 ≤ last .0
   pub carries : live B m ≡ true → m .value ≡ B .memory
 
 -- a request's card is in a state that waits for it
@@ -72,6 +73,6 @@ Distinct (r ∷ rs) = All (Other (r .card) (r .block)) rs × Distinct rs
 pub record Inv (c : Chassis) (log : List Did) : Type 0 where
   pub few : c .cards ≤ home
   pub blocks-ok : (b : ℕ) → BlockOk (c .cards) (c .block b) (pending b log) (base b log)
-  pub messages : All (λ m. MessageOk (c .last .0) (c .block (m .block)) m) (c .pool)
+  pub messages : All (λ m. MessageOk (c .last) (c .block (m .block)) m) (c .pool)
   pub requests : All (λ r. RequestOk (c .block (r .block)) r) (c .line)
   pub distinct : Distinct (c .line)

@@ -3,6 +3,7 @@ pub mod Marked
 pub mod Tests
 pub mod Lists
 pub mod Masks
+pub mod Mask
 pub mod Columns
 pub mod Board
 pub mod Invariant

@@ -1,14 +1,14 @@
--- The members of a mask.
-use Prim.Native.Nat.{ℕ, suc, _+_, _-_, _*_, _/_, _%_, _^_, _<_}
+-- Masks: their members, which of them name only cards that are there, and how code computes them.
+use Prim.Native.Nat.{ℕ, suc, _+_, _-_, _*_, _/_, _%_, _^_, _≤_, _<_}
 use native.Mathlib.Omega.{arith}
-use native.Mathlib.Nat.{div-self, div-eq-of-lt, pow-suc}
+use native.Mathlib.Nat.{div-self, div-eq-of-lt, mod-eq-of-lt, one-mul, pow-suc}
 use mathlib.Core.Bool.{true, false, not, _&&_, _||_}
-use mathlib.Core.Path.{_≡_, refl, sym, subst}
+use mathlib.Core.Path.{_≡_, refl, sym, ap, subst, _∙_}
 use mathlib.Core.Logic.{_≢_}
-use lib.Dec.{ltb, eqb}
-use lib.Pow.{pow-pos, pow-lt, pow-add, shl-shr, ones-lt, ones-split, high}
+use lib.Dec.{ltb, leb, eqb}
+use lib.Pow.{pow-pos, pow-lt, pow-mono, pow-add, shl-shr, ones-lt, ones-split, high}
 use lib.Bits.{bitAnd, bitOr, bitXor, or-shr, or-mod, and-shr, and-mod, xor-shr, xor-mod, or-lt, and-lt, xor-lt}
-use borrow.Author.Tests.{eqb-true, eqb-false, ltb-true, ltb-false, lt-ltb}
+use borrow.Author.Tests.{eqb-true, eqb-false, ltb-true, ltb-false, lt-ltb, le-leb, lt-leb}
 use Rattle.rules.specs.Masks.{has, only, every, union, without, inside}
 use Rattle.rules.proofs.Tests.{test, or-i}
 
@@ -88,3 +88,31 @@ every-inside n = lt-ltb (2 ^ n - 1) (2 ^ n) (ones-lt n)
 pub none-inside : (n : ℕ) → inside n 0 ≡ true
 unfolding inside
 none-inside n = lt-ltb 0 (2 ^ n) (pow-pos n)
+
+-- As code computes them, where a number has w bits
+
+shifted : (w k : ℕ) → k < w → 1 * 2 ^ k % 2 ^ w ≡ 2 ^ k
+shifted w k l = ap (λ n. n % 2 ^ w) (one-mul (2 ^ k)) ∙ mod-eq-of-lt (pow-lt l)
+
+pub only-shifted : (w k : ℕ) → k < w → 1 * 2 ^ k % 2 ^ w ≡ only k
+unfolding only
+only-shifted w k l = shifted w k l
+
+pub every-shifted : (w n : ℕ) → n < w → 1 * 2 ^ n % 2 ^ w - 1 ≡ every n
+unfolding every
+every-shifted w n l = ap (λ m. m - 1) (shifted w n l)
+
+pub some-shifted : (w n : ℕ) → n < w → 0 < 1 * 2 ^ n % 2 ^ w
+some-shifted w n l = rw (shifted w n l) (pow-pos n)
+
+-- it has no more bits than there are cards
+pub every-below : (b n : ℕ) → n ≤ b → every n < 2 ^ b
+unfolding every
+every-below b n l = omega (arith, pow-pos n, pow-mono l)
+
+-- no card in the mask but those of the mask e of every card
+pub inside-every : (n m e : ℕ) → e ≡ every n → leb m e ≡ inside n m
+unfolding every inside
+inside-every n m e h = test (ltb m (2 ^ n))
+    (λ p. rw (p, le-leb m e (let l = ltb-true m (2 ^ n) p in omega (arith, pow-pos n))))
+    (λ p. rw (p, lt-leb m e (let l = ltb-false m (2 ^ n) p in omega (arith, pow-pos n))))

@@ -3,21 +3,21 @@ use Prim.Native.Nat.{ℕ}
 use mathlib.Core.Bool.{Bool, true, false, not}
 use mathlib.Core.List.{List, [], _∷_}
 use mathlib.Core.Path.{_≡_, refl, sym, ap, subst}
-use mathlib.Core.Logic.{_≢_}
+use mathlib.Core.Logic.{_≢_, ⊎-elim}
 use lib.Dec.{eqb}
 use borrow.Author.Tests.{eq-eqb, not-true}
 use Rattle.rules.specs.Tests.{allOf}
-use Rattle.rules.specs.Chassis.{Chassis}
-use Rattle.rules.specs.Answers.{refusalNo, refusalOf, Result, result, Reason, refusedBy}
+use Rattle.rules.specs.Chassis.{Chassis, messageOf}
+use Rattle.rules.specs.Answers.{refusalNo, refusalOf, Result, result, Reason, refusedBy, FirstHolds, NoneHolds}
 use Rattle.rules.specs.Order.{order, orderHead}
-use Rattle.rules.specs.Events.{messageAt, live, deliver, reasons, effect, step}
+use Rattle.rules.specs.Events.{live, deliver, reasons, effect, step}
 use Rattle.rules.specs.Claims.{Refused-keeps}
-use Rattle.rules.specs.declared.kinds.Request.{Request}
-use Rattle.rules.specs.declared.kinds.Answer.{Answer}
-use Rattle.rules.specs.declared.kinds.Answer.the-variants.{Done, Refused}
-use Rattle.rules.specs.declared.kinds.Refusal.{Refusal}
-use Rattle.rules.specs.declared.kinds.Event.{Event}
-use Rattle.rules.specs.declared.kinds.Event.the-variants.{
+use Rattle.rules.specs.declared.Request.{Request}
+use Rattle.rules.specs.declared.Answer.{Answer}
+use Rattle.rules.specs.declared.Answer.the-variants.{Done, Refused}
+use Rattle.rules.specs.declared.Refusal.{Refusal}
+use Rattle.rules.specs.declared.Event.{Event}
+use Rattle.rules.specs.declared.Event.the-variants.{
   Load,
   Store,
   Drop,
@@ -29,13 +29,22 @@ use Rattle.rules.specs.declared.kinds.Event.the-variants.{
 }
 use Rattle.rules.proofs.Tests.{clash, cond-cases, and-l, and-r}
 
--- none of the reasons holds
-abbrev pub None : List Reason → Type 0
-None [] = Unit {0}
-None (r ∷ rs) = (r .holds ≡ false) × None rs
+-- The first reason that holds refuses; where none does, the event is done
+
+pub refuses : (c : Chassis) (rs : List Reason) (done : Result) (x : Refusal) → FirstHolds rs x → refusedBy c rs done ≡ result (Refused x) c
+unfolding refusedBy
+refuses c [] done x h = absurd h
+refuses c (r ∷ rs) done x h = ⊎-elim
+    (λ p. rw (p .0) (ap (λ y. result (Refused y) c) (p .1)))
+    (λ p. rw (p .0) (refuses c rs done x (p .1))) h
+
+pub accepts : (c : Chassis) (rs : List Reason) (done : Result) → NoneHolds rs → refusedBy c rs done ≡ done
+unfolding refusedBy
+accepts c [] done h = refl
+accepts c (r ∷ rs) done h = rw (h .0) (accepts c rs done (h .1))
 
 pub refused-cases : (c : Chassis) (P : Result → Type 0) (rs : List Reason) (done : Result)
-    → ((r : Refusal) → P (result (Refused r) c)) → (None rs → P done) → P (refusedBy c rs done)
+    → ((r : Refusal) → P (result (Refused r) c)) → (NoneHolds rs → P done) → P (refusedBy c rs done)
 unfolding refusedBy
 refused-cases c P [] done f g = g tt
 refused-cases c P (r ∷ rs) done f g = cond-cases P (r .holds) (result (Refused (r .why)) c) (refusedBy c rs done)
@@ -59,7 +68,7 @@ effect-done c (Store k b v) = tt
 effect-done c (Drop k b) = tt
 effect-done c (Ask k b kind mask) = tt
 effect-done c Order = order-done c (c .line)
-effect-done c (Deliver i) = cond-cases (λ (o : Result). IsDone (o .answer)) (live (c .block (messageAt c i .block)) (messageAt c i)) _ _
+effect-done c (Deliver i) = cond-cases (λ (o : Result). IsDone (o .answer)) (live (c .block (messageOf c i .block)) (messageOf c i)) _ _
     (λ _. tt) (λ _. tt)
 effect-done c (Copy i) = tt
 effect-done c (Rejoin k) = tt
@@ -71,9 +80,9 @@ refused-keeps c e r = refused-cases c (λ (o : Result). o .answer ≡ Refused r 
     (λ _ _. refl) (λ _ h. absurd (subst IsDone h (effect-done c e)))
 
 -- an event that would be accepted has no reason to be refused
-pub accepted-none : (c : Chassis) (e : Event) (x : ℕ) → step c e .answer ≡ Done x → None (reasons c e)
+pub accepted-none : (c : Chassis) (e : Event) (x : ℕ) → step c e .answer ≡ Done x → NoneHolds (reasons c e)
 unfolding step
-accepted-none c e x = refused-cases c (λ (o : Result). o .answer ≡ Done x → None (reasons c e)) _ (effect c e)
+accepted-none c e x = refused-cases c (λ (o : Result). o .answer ≡ Done x → NoneHolds (reasons c e)) _ (effect c e)
     (λ _ h. absurd (subst IsDone (sym h) tt)) (λ h _. h .1)
 
 -- A refusal that is never given

@@ -6,13 +6,14 @@ use mathlib.Core.Path.{_≡_, refl, sym, subst}
 use mathlib.Core.Logic.{_≢_}
 use borrow.Author.Tests.{not-false}
 use Rattle.rules.specs.Tests.{each}
+use Rattle.rules.specs.Numbers.{noNumber}
 use Rattle.rules.specs.Chassis.{fresh, freshBlock}
 use Rattle.rules.specs.Answers.{Result, result, refusedBy}
 use Rattle.rules.specs.Formed.{sizes, homeOrCard, wellFormed}
 use Rattle.rules.specs.Events.{step, start}
 use Rattle.rules.specs.Claims.{Start-formed, Refused-start}
-use Rattle.rules.specs.declared.kinds.Answer.the-variants.{Done, Refused}
-use Rattle.rules.specs.declared.kinds.Refusal.{Refusal}
+use Rattle.rules.specs.declared.Answer.the-variants.{Done, Refused}
+use Rattle.rules.specs.declared.Refusal.{Refusal}
 use Rattle.rules.proofs.Masks.{none-inside}
 use Rattle.rules.proofs.Refusals.{refused-cases, IsDone}
 use Rattle.rules.proofs.Formed.{idle-wf, idle-unused, →unused, →wf}
@@ -39,7 +40,7 @@ fresh-formed cards blocks h = →wf (fresh cards blocks) (record {
   used = λ b l u. record {
     owner = refl;
     sharers = none-inside cards;
-    places = λ k l8. record { used = λ _. idle-wf 0; unused = λ _. idle-unused };
+    places = λ k l8. record { used = λ _. idle-wf noNumber; unused = λ _. idle-unused };
   };
   unused = λ b l u. →unused freshBlock (record { memory = refl; owner = refl; sharers = refl; cells = λ _ _. idle-unused });
 })

@@ -10,7 +10,23 @@ use borrow.Author.Tests.{eqb-true, eqb-false, eq-eqb, ne-eqb, ltb-true, lt-ltb, 
 use Rattle.rules.specs.Tests.{_⇒_}
 use Rattle.rules.specs.Lists.{removed, keep, All}
 use Rattle.rules.specs.Masks.{has, only, every, without, inside}
-use Rattle.rules.specs.Numbers.{mostCards, home, room, lastRetry, gets, putx, none}
+use Rattle.rules.specs.Mask.{suffices}
+use Rattle.rules.specs.Numbers.{
+  mostCards,
+  home,
+  room,
+  noNumber,
+  nextNumber,
+  sameNumber,
+  firstRetry,
+  lastRetry,
+  nextRetry,
+  sameRetry,
+  upToRetry,
+  gets,
+  putx,
+  none,
+}
 use Rattle.rules.specs.Table.{
   loads,
   stores,
@@ -28,34 +44,30 @@ use Rattle.rules.specs.Chassis.{
   Chassis,
   cellOf,
   stateOf,
+  aRequest,
   idle,
+  messageOf,
   goes,
   goesFor,
+  storing,
   withCell,
   changed,
   cellChanged,
   poolChanged,
 }
-use Rattle.rules.specs.Answers.{Result}
+use Rattle.rules.specs.Answers.{Result, NoneHolds}
 use Rattle.rules.specs.Order.{
   held,
   impossible,
   noRoomFor,
   orderReasons,
-  suffices,
   turn,
-  ownerAfter,
-  sharersAfter,
-  askerSees,
-  ownerSees,
-  readerSees,
+  upshotOf,
   sees,
   ordered,
   dataFor,
-  sent,
   retryMask,
   retried,
-  again,
   orderHead,
   order,
 }
@@ -66,10 +78,7 @@ use Rattle.rules.specs.Events.{
   rightReasons,
   noMessage,
   reasons,
-  storing,
-  request,
   ask,
-  messageAt,
   live,
   takes,
   deliver,
@@ -79,9 +88,10 @@ use Rattle.rules.specs.Events.{
   step,
 }
 use Rattle.rules.specs.Claims.{Stays-formed}
-use Rattle.rules.specs.declared.kinds.Cell.{Cell}
-use Rattle.rules.specs.declared.kinds.Turn.{Turn}
-use Rattle.rules.specs.declared.kinds.Turn.the-variants.{
+use Rattle.rules.specs.declared.OrderNo.{OrderNo}
+use Rattle.rules.specs.declared.Cell.{Cell}
+use Rattle.rules.specs.declared.Turn.{Turn}
+use Rattle.rules.specs.declared.Turn.the-variants.{
   GetsGranted,
   GetxGranted,
   GetsMissed,
@@ -89,10 +99,10 @@ use Rattle.rules.specs.declared.kinds.Turn.the-variants.{
   PutTaken,
   PutLapsed,
 }
-use Rattle.rules.specs.declared.kinds.Request.{Request}
-use Rattle.rules.specs.declared.kinds.Message.{Message}
-use Rattle.rules.specs.declared.kinds.Event.{Event}
-use Rattle.rules.specs.declared.kinds.Event.the-variants.{
+use Rattle.rules.specs.declared.Request.{Request}
+use Rattle.rules.specs.declared.Message.{Message}
+use Rattle.rules.specs.declared.Event.{Event}
+use Rattle.rules.specs.declared.Event.the-variants.{
   Load,
   Store,
   Drop,
@@ -112,8 +122,9 @@ use Rattle.rules.proofs.Masks.{
   every-inside,
   none-inside,
 }
+use Rattle.rules.proofs.Mask.{every-suffices}
 use Rattle.rules.proofs.States.{state, gets-quiet, getx-quiet, filled, asking, asks}
-use Rattle.rules.proofs.Refusals.{None, refused-cases}
+use Rattle.rules.proofs.Refusals.{refused-cases}
 use Rattle.rules.proofs.Steps.{live-waits}
 use Rattle.rules.proofs.Turns.{sees-cases}
 use Rattle.rules.proofs.Formed.{
@@ -143,13 +154,13 @@ use Rattle.rules.proofs.Formed.{
 }
 
 -- the next order number is not 0
-next-numbered : (n : ℕ) → not (eqb (suc n) 0) ≡ true
-next-numbered n = rw (ne-eqb (suc n) 0 (omega arith))
+next-numbered : (n : OrderNo) → not (sameNumber (nextNumber n) noNumber) ≡ true
+next-numbered n = rw (ne-eqb (suc (n .0)) 0 (omega arith))
 
 -- Cells that see a request
 
-owner-wf : (t : Turn) (n : ℕ) (x : Cell) → CellWf n x → waits (x .state) ≡ false → CellWf n (ownerSees t x)
-unfolding ownerSees
+owner-wf : (t : Turn) (n : OrderNo) (x : Cell) → CellWf n x → waits (x .state) ≡ false → CellWf n (upshotOf t .ownerSees x)
+unfolding upshotOf
 owner-wf GetsGranted n x h f = let q = gets-quiet (x .state) (h .code) f in goes-wf n (seesGets (x .state)) x (q .code) (q .waits-not)
 owner-wf GetxGranted n x h f = let q = getx-quiet (x .state) (h .code) f in goes-wf n (seesGetx (x .state)) x (q .code) (q .waits-not)
 owner-wf GetsMissed n x h f = h
@@ -157,15 +168,15 @@ owner-wf GetxMissed n x h f = h
 owner-wf PutTaken n x h f = h
 owner-wf PutLapsed n x h f = h
 
-moved-wf : (n : ℕ) (x : Cell) → CellWf n x → waits (x .state) ≡ false
+moved-wf : (n : OrderNo) (x : Cell) → CellWf n x → waits (x .state) ≡ false
     → CellWf n (cond (isReader (x .state)) (goes (seesGetx (x .state)) x) x)
 moved-wf n x h f =
     let q = getx-quiet (x .state) (h .code) f in
     cond-cases (CellWf n) (isReader (x .state)) (goes (seesGetx (x .state)) x) x
     (λ _. goes-wf n (seesGetx (x .state)) x (q .code) (q .waits-not)) (λ _. h)
 
-reader-wf : (t : Turn) (n : ℕ) (x : Cell) → CellWf n x → waits (x .state) ≡ false → CellWf n (readerSees t x)
-unfolding readerSees
+reader-wf : (t : Turn) (n : OrderNo) (x : Cell) → CellWf n x → waits (x .state) ≡ false → CellWf n (upshotOf t .readerSees x)
+unfolding upshotOf
 reader-wf GetsGranted n x h f = h
 reader-wf GetxGranted n x h f = moved-wf n x h f
 reader-wf GetsMissed n x h f = h
@@ -174,8 +185,8 @@ reader-wf PutTaken n x h f = h
 reader-wf PutLapsed n x h f = h
 
 -- an idle cell sees nothing
-owner-idle : (t : Turn) → ownerSees t idle ≡ idle
-unfolding ownerSees seesGets seesGetx loads
+owner-idle : (t : Turn) → upshotOf t .ownerSees idle ≡ idle
+unfolding upshotOf seesGets seesGetx loads
 owner-idle GetsGranted = refl
 owner-idle GetxGranted = refl
 owner-idle GetsMissed = refl
@@ -183,8 +194,8 @@ owner-idle GetxMissed = refl
 owner-idle PutTaken = refl
 owner-idle PutLapsed = refl
 
-reader-idle : (t : Turn) → readerSees t idle ≡ idle
-unfolding readerSees isReader
+reader-idle : (t : Turn) → upshotOf t .readerSees idle ≡ idle
+unfolding upshotOf isReader
 reader-idle GetsGranted = refl
 reader-idle GetxGranted = refl
 reader-idle GetsMissed = refl
@@ -209,25 +220,25 @@ module _ {c : Chassis} (w : Wf c) where
   abbrev RequestsOk : List Request → Type 0
   RequestsOk l = All (λ r. okRequest (c .cards) (c .blocks) r ≡ true) l
 
-  abbrev MessagesOk : ℕ → List Message → Type 0
+  abbrev MessagesOk : OrderNo → List Message → Type 0
   MessagesOk n p = All (λ m. okMessage (c .cards) (c .blocks) n m ≡ true) p
 
   few : SizesWf (c .cards) (c .blocks)
   few = sizes→ (c .cards) (c .blocks) (w .size)
 
-  block-at : (b : ℕ) → b < c .blocks → BlockWf (c .cards) (c .last .0) (c .block b)
+  block-at : (b : ℕ) → b < c .blocks → BlockWf (c .cards) (c .last) (c .block b)
   block-at b l = let f = few .few-blocks in w .used b (omega arith) l
 
-  place-at : (k b : ℕ) → k < c .cards → b < c .blocks → CellWf (c .last .0) (cellOf c k b)
+  place-at : (k b : ℕ) → k < c .cards → b < c .blocks → CellWf (c .last) (cellOf c k b)
   place-at k b k< b< = let f = few .few-cards in block-at b b< .places k (omega arith) .used k<
 
   -- the old messages, where more order numbers are given
-  older : (n : ℕ) → c .last .0 ≤ n → MessagesOk n (c .pool)
-  older n le = All-map (λ m. grow-message (c .cards) (c .blocks) (c .last .0) n m le) (c .pool) (w .messages)
+  older : (n : OrderNo) → c .last .0 ≤ n .0 → MessagesOk n (c .pool)
+  older n le = All-map (λ m. grow-message (c .cards) (c .blocks) (c .last) n m le) (c .pool) (w .messages)
 
   -- What an event leaves
 
-  changed-wf : (b : ℕ) (B : Block) (l : List Request) (p : List Message) (n : ℕ) → b < c .blocks → c .last .0 ≤ n
+  changed-wf : (b : ℕ) (B : Block) (l : List Request) (p : List Message) (n : OrderNo) → b < c .blocks → c .last .0 ≤ n .0
       → BlockWf (c .cards) n B → length l ≤ room → length p ≤ room → RequestsOk l → MessagesOk n p → Wf (changed c b B l p n)
   changed-wf b B l p n b< le new lr pr rs ms = record {
     size = w .size;
@@ -236,27 +247,27 @@ module _ {c : Chassis} (w : Wf c) where
     requests = rs;
     messages = ms;
     used = λ b′ l u. replace-cases (BlockWf (c .cards) n) (c .block) b B b′
-        (λ _. new) (λ _. grow-block (c .cards) (c .last .0) n (c .block b′) le (w .used b′ l u));
+        (λ _. new) (λ _. grow-block (c .cards) (c .last) n (c .block b′) le (w .used b′ l u));
     unused = λ b′ l u. replace-cases (λ X. unusedBlock X ≡ true) (c .block) b B b′ (λ e. absurd (omega arith)) (λ _. w .unused b′ l u);
   }
 
   -- one cell of a card that is there anew
-  cell-wf : (k b : ℕ) (x : Cell) → k < c .cards → b < c .blocks → CellWf (c .last .0) x
-      → BlockWf (c .cards) (c .last .0) (withCell (c .block b) k x)
+  cell-wf : (k b : ℕ) (x : Cell) → k < c .cards → b < c .blocks → CellWf (c .last) x
+      → BlockWf (c .cards) (c .last) (withCell (c .block b) k x)
   cell-wf k b x k< b< h =
       let B = block-at b b< in
       record {
         owner = B .owner;
         sharers = B .sharers;
-        places = λ j l. replace-cases (Place (c .cards) (c .last .0) j) (c .block b .cell) k x j
+        places = λ j l. replace-cases (Place (c .cards) (c .last) j) (c .block b .cell) k x j
             (λ e. record { used = λ _. h; unused = λ q. absurd (omega arith) }) (λ _. B .places j l);
       }
 
-  cell-step : (k b : ℕ) (x : Cell) → k < c .cards → b < c .blocks → CellWf (c .last .0) x → Wf (cellChanged c k b x)
-  cell-step k b x k< b< h = changed-wf b (withCell (c .block b) k x) (c .line) (c .pool) (c .last .0) b< (omega arith)
+  cell-step : (k b : ℕ) (x : Cell) → k < c .cards → b < c .blocks → CellWf (c .last) x → Wf (cellChanged c k b x)
+  cell-step k b x k< b< h = changed-wf b (withCell (c .block b) k x) (c .line) (c .pool) (c .last) b< (omega arith)
       (cell-wf k b x k< b< h) (w .line-room) (w .pool-room) (w .requests) (w .messages)
 
-  pool-wf : (p : List Message) → length p ≤ room → MessagesOk (c .last .0) p → Wf (poolChanged c p)
+  pool-wf : (p : List Message) → length p ≤ room → MessagesOk (c .last) p → Wf (poolChanged c p)
   pool-wf p l h = record {
     size = w .size;
     line-room = w .line-room;
@@ -269,7 +280,7 @@ module _ {c : Chassis} (w : Wf c) where
 
   -- Store and Ask
 
-  stored-wf : (k b v : ℕ) → k < c .cards → b < c .blocks → stores (stateOf c k b) ≡ true → CellWf (c .last .0) (storing v (cellOf c k b))
+  stored-wf : (k b v : ℕ) → k < c .cards → b < c .blocks → stores (stateOf c k b) ≡ true → CellWf (c .last) (storing v (cellOf c k b))
   stored-wf k b v k< b< h =
       let x = place-at k b k< b< in
       record {
@@ -286,9 +297,9 @@ module _ {c : Chassis} (w : Wf c) where
   ask-wf k b kind mask k< b< lo hi m h lr =
       let s = stateOf c k b in
       let t = asks kind s (omega arith) (place-at k b k< b< .code) h in
-      let r = request k b kind mask in
-      changed-wf b _ (c .line ++ r ∷ []) (c .pool) (c .last .0) b< (omega arith)
-      (cell-wf k b (goes (asked kind s) (cellOf c k b)) k< b< (goes-wf (c .last .0) (asked kind s) (cellOf c k b) (t .code) (t .waits-not)))
+      let r = aRequest k b kind mask firstRetry in
+      changed-wf b _ (c .line ++ r ∷ []) (c .pool) (c .last) b< (omega arith)
+      (cell-wf k b (goes (asked kind s) (cellOf c k b)) k< b< (goes-wf (c .last) (asked kind s) (cellOf c k b) (t .code) (t .waits-not)))
       (rw (length-append (c .line) (r ∷ [])) (omega arith)) (w .pool-room)
       (All-append (λ r. okRequest (c .cards) (c .blocks) r ≡ true) (c .line) (r ∷ []) (w .requests) (
         →request (c .cards) (c .blocks) r
@@ -299,21 +310,21 @@ module _ {c : Chassis} (w : Wf c) where
 
   -- Deliver and Copy
 
-  deliver-wf : (i : ℕ) → i < length (c .pool) → Wf (deliver c i (messageAt c i) .after)
+  deliver-wf : (i : ℕ) → i < length (c .pool) → Wf (deliver c i (messageOf c i) .after)
   unfolding deliver
   deliver-wf i l =
-      let m = messageAt c i in
+      let m = messageOf c i in
       let b = m .block in
       let k = m .receiver in
       let x = cellOf c k b in
-      let P : Message → Type 0 = λ m. okMessage (c .cards) (c .blocks) (c .last .0) m ≡ true in
-      let mok = message→ (c .cards) (c .blocks) (c .last .0) m (All-at P (c .pool) i _ l (w .messages)) in
+      let P : Message → Type 0 = λ m. okMessage (c .cards) (c .blocks) (c .last) m ≡ true in
+      let mok = message→ (c .cards) (c .blocks) (c .last) m (All-at P (c .pool) i _ l (w .messages)) in
       let p = removed i (c .pool) in
       let short : length p ≤ room = let a = removed-short i (c .pool) in let b = w .pool-room in omega arith in
       cond-cases (λ (o : Result). Wf (o .after)) (live (c .block b) m) _ _
       (λ e. let wt = live-waits (c .block b) m e in
       let t = filled (x .state) (place-at k b (mok .receiver) (mok .block) .code) wt in
-      changed-wf b (withCell (c .block b) k (takes m x)) (c .line) p (c .last .0) (mok .block) (omega arith)
+      changed-wf b (withCell (c .block b) k (takes m x)) (c .line) p (c .last) (mok .block) (omega arith)
       (cell-wf k b (takes m x) (mok .receiver) (mok .block) (record {
         code = t .code;
         given = omega arith;
@@ -324,11 +335,11 @@ module _ {c : Chassis} (w : Wf c) where
       (w .line-room) short (w .requests) (All-removed P i (c .pool) (w .messages)))
       (λ _. pool-wf p short (All-removed P i (c .pool) (w .messages)))
 
-  copy-wf : (i : ℕ) → i < length (c .pool) → length (c .pool) < room → Wf (poolChanged c (c .pool ++ messageAt c i ∷ []))
+  copy-wf : (i : ℕ) → i < length (c .pool) → length (c .pool) < room → Wf (poolChanged c (c .pool ++ messageOf c i ∷ []))
   copy-wf i l r =
-      let P : Message → Type 0 = λ m. okMessage (c .cards) (c .blocks) (c .last .0) m ≡ true in
-      pool-wf (c .pool ++ messageAt c i ∷ []) (rw (length-append (c .pool) (messageAt c i ∷ [])) (omega arith))
-      (All-append P (c .pool) (messageAt c i ∷ []) (w .messages) (All-at P (c .pool) i _ l (w .messages), tt))
+      let P : Message → Type 0 = λ m. okMessage (c .cards) (c .blocks) (c .last) m ≡ true in
+      pool-wf (c .pool ++ messageOf c i ∷ []) (rw (length-append (c .pool) (messageOf c i ∷ [])) (omega arith))
+      (All-append P (c .pool) (messageOf c i ∷ []) (w .messages) (All-at P (c .pool) i _ l (w .messages), tt))
 
   -- Rejoin
 
@@ -347,8 +358,8 @@ module _ {c : Chassis} (w : Wf c) where
           owner = cond-cases (λ y. homeOrCard (c .cards) y ≡ true) (eqb (c .block b .owner) k) home (c .block b .owner)
               (λ _. refl) (λ _. B .owner);
           sharers = without-inside (c .cards) (c .block b .sharers) (only k) (B .sharers) (only-inside (c .cards) k k<);
-          places = λ j l8. replace-cases (Place (c .cards) (c .last .0) j) (c .block b .cell) k idle j
-              (λ _. record { used = λ _. idle-wf (c .last .0); unused = λ _. idle-unused }) (λ _. B .places j l8);
+          places = λ j l8. replace-cases (Place (c .cards) (c .last) j) (c .block b .cell) k idle j
+              (λ _. record { used = λ _. idle-wf (c .last); unused = λ _. idle-unused }) (λ _. B .places j l8);
         };
         unused = λ b l u. rejoin-unused k (c .block b) (w .unused b l u);
       }
@@ -359,8 +370,8 @@ module _ {c : Chassis} (w : Wf c) where
     abbrev Head : Block
     Head = c .block (r .block)
 
-    abbrev Next : ℕ
-    Next = suc (c .last .0)
+    abbrev Next : OrderNo
+    Next = nextNumber (c .last)
 
     requests : RequestsOk (r ∷ rest)
     requests = subst RequestsOk at (w .requests)
@@ -368,7 +379,7 @@ module _ {c : Chassis} (w : Wf c) where
     asks-ok : RequestWf (c .cards) (c .blocks) r
     asks-ok = request→ (c .cards) (c .blocks) r (requests .0)
 
-    block-ok : BlockWf (c .cards) (c .last .0) Head
+    block-ok : BlockWf (c .cards) (c .last) Head
     block-ok = block-at (r .block) (asks-ok .block)
 
     owner-card : eqb (Head .owner) home ≡ false → Head .owner < c .cards
@@ -380,28 +391,28 @@ module _ {c : Chassis} (w : Wf c) where
     free k k< = some-false (c .cards) (λ k. waits (Head .cell k .state)) h k k<
 
     -- every card's cell
-    seen-wf : (t : Turn) → CellWf Next (askerSees t Next (cellOf c (r .card) (r .block)))
+    seen-wf : (t : Turn) → CellWf Next (upshotOf t .askerSees Next (cellOf c (r .card) (r .block)))
         → (k : ℕ) → k < mostCards → Place (c .cards) Next k (sees t Head r Next k)
     seen-wf t asker k k8 =
         let x = Head .cell k in
         let pl = block-ok .places k k8 in
         let card = asks-ok .card in
         record {
-          used = λ k<. let y = grow (c .last .0) Next x (omega arith) (pl .used k<) in
+          used = λ k<. let y = grow (c .last) Next x (omega arith) (pl .used k<) in
               sees-cases (CellWf Next) t Head r Next k
-              (λ e. subst (λ i. CellWf Next (askerSees t Next (Head .cell i))) e asker)
+              (λ e. subst (λ i. CellWf Next (upshotOf t .askerSees Next (Head .cell i))) e asker)
               (λ _ _. owner-wf t Next x y (free k k<)) (λ _ _ _. reader-wf t Next x y (free k k<)) (λ _ _ _. y);
           unused = λ ge. let e = unused-idle x (pl .unused ge) in
               sees-cases (λ y. unusedCell y ≡ true) t Head r Next k
               (λ f. absurd (omega arith))
-              (λ _ _. subst (λ y. unusedCell (ownerSees t y) ≡ true) (sym e) (rw (owner-idle t) idle-unused))
-              (λ _ _ _. subst (λ y. unusedCell (readerSees t y) ≡ true) (sym e) (rw (reader-idle t) idle-unused))
+              (λ _ _. subst (λ y. unusedCell (upshotOf t .ownerSees y) ≡ true) (sym e) (rw (owner-idle t) idle-unused))
+              (λ _ _ _. subst (λ y. unusedCell (upshotOf t .readerSees y) ≡ true) (sym e) (rw (reader-idle t) idle-unused))
               (λ _ _ _. pl .unused ge);
         }
 
     -- home's part
-    owner-in : (t : Turn) → homeOrCard (c .cards) (ownerAfter t Head (r .card)) ≡ true
-    unfolding ownerAfter homeOrCard
+    owner-in : (t : Turn) → homeOrCard (c .cards) (upshotOf t .owner Head (r .card)) ≡ true
+    unfolding upshotOf homeOrCard
     owner-in GetsGranted = refl
     owner-in GetxGranted = or-i {a = eqb (r .card) home} (λ _. lt-ltb (r .card) (c .cards) (asks-ok .card))
     owner-in GetsMissed = block-ok .owner
@@ -409,8 +420,8 @@ module _ {c : Chassis} (w : Wf c) where
     owner-in PutTaken = refl
     owner-in PutLapsed = block-ok .owner
 
-    sharers-in : (t : Turn) → inside (c .cards) (sharersAfter t Head (r .card)) ≡ true
-    unfolding sharersAfter
+    sharers-in : (t : Turn) → inside (c .cards) (upshotOf t .sharers Head (r .card)) ≡ true
+    unfolding upshotOf
     sharers-in GetsGranted = union-inside (c .cards) _ (only (r .card))
         (cond-cases (λ y. inside (c .cards) y ≡ true) (eqb (Head .owner) home) (Head .sharers) (only (Head .owner))
         (λ _. block-ok .sharers) (λ e. only-inside (c .cards) (Head .owner) (owner-card e)))
@@ -422,14 +433,14 @@ module _ {c : Chassis} (w : Wf c) where
     sharers-in PutLapsed = block-ok .sharers
 
     -- the line and the pool
-    line-fits : (t : Turn) → length (rest ++ again t (c .cards) Head r) ≤ room
-    unfolding again
-    line-fits t = rw (length-append rest (again t (c .cards) Head r)) (go t)
+    line-fits : (t : Turn) → length (rest ++ upshotOf t .again (c .cards) Head r) ≤ room
+    unfolding upshotOf
+    line-fits t = rw (length-append rest (upshotOf t .again (c .cards) Head r)) (go t)
       where
         fits : suc (length rest) ≤ room
         fits = subst (λ l. length l ≤ room) at (w .line-room)
 
-        go : (t : Turn) → length rest + length (again t (c .cards) Head r) ≤ room
+        go : (t : Turn) → length rest + length (upshotOf t .again (c .cards) Head r) ≤ room
         go GetsGranted = let z = fits in omega arith
         go GetxGranted = let z = fits in omega arith
         go GetsMissed = let z = fits in omega arith
@@ -443,12 +454,12 @@ module _ {c : Chassis} (w : Wf c) where
       sender = block-ok .owner;
       receiver = asks-ok .card;
       block = asks-ok .block;
-      numbered = next-numbered (c .last .0);
+      numbered = next-numbered (c .last);
       given = omega arith;
     })
 
-    sent-wf : (t : Turn) → MessagesOk Next (sent t Head r Next)
-    unfolding sent
+    sent-wf : (t : Turn) → MessagesOk Next (upshotOf t .sent Head r Next)
+    unfolding upshotOf
     sent-wf GetsGranted = (data-wf, tt)
     sent-wf GetxGranted = (data-wf, tt)
     sent-wf GetsMissed = tt
@@ -457,60 +468,51 @@ module _ {c : Chassis} (w : Wf c) where
     sent-wf PutLapsed = tt
 
     -- a turn, from what depends on it
-    turn-wf : (t : Turn) → CellWf Next (askerSees t Next (cellOf c (r .card) (r .block)))
-        → length (c .pool ++ sent t Head r Next) ≤ room → RequestsOk (again t (c .cards) Head r)
-        → Wf (changed c (r .block) (ordered t Head r Next) (rest ++ again t (c .cards) Head r) (c .pool ++ sent t Head r Next) Next)
+    turn-wf : (t : Turn) → CellWf Next (upshotOf t .askerSees Next (cellOf c (r .card) (r .block)))
+        → length (c .pool ++ upshotOf t .sent Head r Next) ≤ room → RequestsOk (upshotOf t .again (c .cards) Head r)
+        → Wf (changed c (r .block) (ordered t Head r Next) (rest ++ upshotOf t .again (c .cards) Head r) (c .pool ++ upshotOf t .sent Head r Next) Next)
     unfolding ordered
     turn-wf t asker pr rs =
-        changed-wf (r .block) (ordered t Head r Next) (rest ++ again t (c .cards) Head r) (c .pool ++ sent t Head r Next) Next
+        changed-wf (r .block) (ordered t Head r Next) (rest ++ upshotOf t .again (c .cards) Head r) (c .pool ++ upshotOf t .sent Head r Next) Next
         (asks-ok .block) (omega arith)
         (record { owner = owner-in t; sharers = sharers-in t; places = seen-wf t asker })
         (line-fits t) pr
-        (All-append (λ r. okRequest (c .cards) (c .blocks) r ≡ true) rest (again t (c .cards) Head r) (requests .1) rs)
-        (All-append (λ m. okMessage (c .cards) (c .blocks) Next m ≡ true) (c .pool) (sent t Head r Next)
+        (All-append (λ r. okRequest (c .cards) (c .blocks) r ≡ true) rest (upshotOf t .again (c .cards) Head r) (requests .1) rs)
+        (All-append (λ m. okMessage (c .cards) (c .blocks) Next m ≡ true) (c .pool) (upshotOf t .sent Head r Next)
         (older Next (omega arith)) (sent-wf t))
-
-    -- a mask of every card suffices
-    every-suffices : r .mask ≡ every (c .cards) → suffices (c .cards) Head r ≡ true
-    unfolding suffices
-    every-suffices e =
-        and-i {a = eqb (Head .owner) home || has (r .mask) (Head .owner)}
-        (or-i {a = eqb (Head .owner) home} (λ f. rw e (has-every (c .cards) (Head .owner) (owner-card f))))
-        (or-i {a = eqb (r .kind) gets} (λ _. all-intro (c .cards) (λ k. has (Head .sharers) k ⇒ eqb k (r .card) || has (r .mask) k)
-        (λ k l. imp-i (has (Head .sharers) k) (λ _. or-i {a = eqb k (r .card)} (λ _. rw e (has-every (c .cards) k l))))))
 
     -- so a request that is put back has a retry to go
     retried-wf : suffices (c .cards) Head r ≡ false → okRequest (c .cards) (c .blocks) (retried (c .cards) Head r) ≡ true
     unfolding retried retryMask
     retried-wf f =
-        let next = suc (r .retry .0) in
-        let less : next ≤ lastRetry = test (eqb (r .retry .0) lastRetry)
-        (λ e. absurd (clash (every-suffices (eqb-true (r .mask) (every (c .cards)) (imp (asks-ok .full) e))) f))
-        (λ e. let ne = eqb-false (r .retry .0) lastRetry e in let le = asks-ok .retry in omega arith) in
+        let next = nextRetry (r .retry) in
+        let less : next .0 ≤ lastRetry .0 = test (sameRetry (r .retry) lastRetry)
+        (λ e. absurd (clash (every-suffices (c .cards) Head r owner-card (eqb-true (r .mask) (every (c .cards)) (imp (asks-ok .full) e))) f))
+        (λ e. let ne = eqb-false (r .retry .0) (lastRetry .0) e in let le = asks-ok .retry in omega arith) in
         →request (c .cards) (c .blocks) (retried (c .cards) Head r) (record {
           card = asks-ok .card;
           block = asks-ok .block;
           low = asks-ok .low;
           high = asks-ok .high;
           retry = less;
-          mask = cond-cases (λ y. inside (c .cards) y ≡ true) (leb lastRetry next) (every (c .cards)) _ (λ _. every-inside (c .cards))
+          mask = cond-cases (λ y. inside (c .cards) y ≡ true) (upToRetry lastRetry next) (every (c .cards)) _ (λ _. every-inside (c .cards))
               (λ _. cond-cases (λ y. inside (c .cards) y ≡ true) (eqb (Head .owner) home) (Head .sharers) _ (λ _. block-ok .sharers)
               (λ e. union-inside (c .cards) (only (Head .owner)) (Head .sharers)
               (only-inside (c .cards) (Head .owner) (owner-card e)) (block-ok .sharers)));
-          full = imp-i (eqb next lastRetry) (λ e.
-              rw (le-leb lastRetry next (let z = eqb-true next lastRetry e in omega arith)) (eq-eqb (every (c .cards)) (every (c .cards)) refl));
+          full = imp-i (sameRetry next lastRetry) (λ e.
+              rw (le-leb (lastRetry .0) (next .0) (let z = eqb-true (next .0) (lastRetry .0) e in omega arith)) (eq-eqb (every (c .cards)) (every (c .cards)) refl));
         })
 
     head-wf : impossible Head r ≡ false → noRoomFor c r ≡ false → Wf (orderHead c r rest .after)
-    unfolding orderHead turn askerSees sent again impossible noRoomFor
+    unfolding orderHead turn upshotOf impossible noRoomFor
     head-wf i full =
         let s = Head .cell (r .card) .state in
         let x = place-at (r .card) (r .block) (asks-ok .card) (asks-ok .block) in
-        let more = grow (c .last .0) Next (cellOf c (r .card) (r .block)) (omega arith) x in
+        let more = grow (c .last) Next (cellOf c (r .card) (r .block)) (omega arith) x in
         let from : comesFrom (r .kind) s ≡ true = not-false (comesFrom (r .kind) s) (any→ (not (comesFrom (r .kind) s) ∷ _ ∷ _ ∷ _ ∷ _ ∷ []) i .0) in
         let a = asking (r .kind) s (x .code) from in
-        let K : Turn → Type 0 = λ t. Wf (changed c (r .block) (ordered t Head r Next) (rest ++ again t (c .cards) Head r)
-        (c .pool ++ sent t Head r Next) Next) in
+        let K : Turn → Type 0 = λ t. Wf (changed c (r .block) (ordered t Head r Next) (rest ++ upshotOf t .again (c .cards) Head r)
+        (c .pool ++ upshotOf t .sent Head r Next) Next) in
         let short : length (c .pool ++ []) ≤ room = rw (append-nil (c .pool)) (w .pool-room) in
         cond-cases K (eqb (r .kind) putx) _ _
         (λ e. cond-cases K (putStands s) PutTaken PutLapsed
@@ -518,7 +520,7 @@ module _ {c : Chassis} (w : Wf c) where
         (λ e. let waiting = a .granted-waits e in
         let asker : CellWf Next (goesFor Next (grantedTo s) (cellOf c (r .card) (r .block)))
         = goesFor-wf Next Next (grantedTo s) (cellOf c (r .card) (r .block)) (a .granted-code e) (omega arith)
-        (imp-i (waits (grantedTo s)) (λ _. next-numbered (c .last .0)))
+        (imp-i (waits (grantedTo s)) (λ _. next-numbered (c .last)))
         (rw waiting) in
         let lt = leb-false room (length (c .pool)) (rw e at full) in
         let long : length (c .pool ++ dataFor Head r Next ∷ []) ≤ room = rw (length-append (c .pool) (dataFor Head r Next ∷ [])) (omega arith) in
@@ -528,14 +530,14 @@ module _ {c : Chassis} (w : Wf c) where
         (λ f. cond-cases K (eqb (r .kind) gets) GetsMissed GetxMissed
         (λ _. turn-wf GetsMissed more short (retried-wf f, tt)) (λ _. turn-wf GetxMissed more short (retried-wf f, tt))))
 
-  order-wf : (l : List Request) → c .line ≡ l → None (orderReasons c l) → Wf (order c l .after)
+  order-wf : (l : List Request) → c .line ≡ l → NoneHolds (orderReasons c l) → Wf (order c l .after)
   unfolding order orderReasons
   order-wf [] at h = absurd (true≢false (h .0))
   order-wf (r ∷ rest) at h = head-wf r rest at (h .1 .0) (h .1 .1 .0) (h .1 .1 .1 .0)
 
   -- Every event
 
-  effect-wf : (e : Event) → None (reasons c e) → Wf (effect c e .after)
+  effect-wf : (e : Event) → NoneHolds (reasons c e) → Wf (effect c e .after)
   unfolding reasons rightReasons noCard noBlock noMessage effect
   effect-wf (Load k b) h = w
   effect-wf (Store k b v) h =
@@ -543,7 +545,7 @@ module _ {c : Chassis} (w : Wf c) where
       let b< = leb-false (c .blocks) b (h .1 .0) in
       cell-step k b (storing v (cellOf c k b)) k< b< (stored-wf k b v k< b< (not-false (stores (stateOf c k b)) (h .1 .1 .0)))
   effect-wf (Drop k b) h =
-      cell-step k b idle (leb-false (c .cards) k (h .0)) (leb-false (c .blocks) b (h .1 .0)) (idle-wf (c .last .0))
+      cell-step k b idle (leb-false (c .cards) k (h .0)) (leb-false (c .blocks) b (h .1 .0)) (idle-wf (c .last))
   effect-wf (Ask k b kind mask) h =
       let known = not-false (leb gets kind && leb kind putx) (h .1 .1 .0) in
       ask-wf k b kind mask (leb-false (c .cards) k (h .0)) (leb-false (c .blocks) b (h .1 .0))

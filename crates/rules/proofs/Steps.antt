@@ -11,34 +11,34 @@ use borrow.Author.Tests.{eqb-true, eq-eqb, ne-eqb, leb-true, leb-false, not-true
 use Rattle.rules.specs.Tests.{_⇒_}
 use Rattle.rules.specs.Lists.{replace, removed, keep, All}
 use Rattle.rules.specs.Masks.{has}
-use Rattle.rules.specs.Numbers.{home, gets, getx, putx, none}
+use Rattle.rules.specs.Mask.{suffices}
+use Rattle.rules.specs.Numbers.{home, nextNumber, sameNumber, firstRetry, gets, getx, putx, none}
 use Rattle.rules.specs.Table.{stores, drops, asked, waits, comesFrom, putStands}
 use Rattle.rules.specs.Chassis.{
   Block,
   Chassis,
   cellOf,
   stateOf,
+  aRequest,
   idle,
+  messageOf,
   goes,
+  storing,
   withCell,
   changed,
   cellChanged,
   poolChanged,
 }
-use Rattle.rules.specs.Answers.{Result, result}
+use Rattle.rules.specs.Answers.{Result, result, NoneHolds}
 use Rattle.rules.specs.Order.{
   held,
   orderReasons,
-  suffices,
   turn,
-  outcomeNo,
-  askerSees,
+  upshotOf,
   sees,
   ordered,
   dataFor,
-  sent,
   retried,
-  again,
   orderHead,
   order,
 }
@@ -48,10 +48,7 @@ use Rattle.rules.specs.Events.{
   rightReasons,
   noMessage,
   reasons,
-  storing,
-  request,
   ask,
-  messageAt,
   live,
   takes,
   deliver,
@@ -61,9 +58,10 @@ use Rattle.rules.specs.Events.{
   step,
 }
 use Rattle.rules.specs.History.{Did, loaded, stored, settles, rejoined, quiet, headBlock, didAccepted, did}
-use Rattle.rules.specs.declared.kinds.Cell.{Cell}
-use Rattle.rules.specs.declared.kinds.Turn.{Turn}
-use Rattle.rules.specs.declared.kinds.Turn.the-variants.{
+use Rattle.rules.specs.declared.OrderNo.{OrderNo}
+use Rattle.rules.specs.declared.Cell.{Cell}
+use Rattle.rules.specs.declared.Turn.{Turn}
+use Rattle.rules.specs.declared.Turn.the-variants.{
   GetsGranted,
   GetxGranted,
   GetsMissed,
@@ -71,11 +69,11 @@ use Rattle.rules.specs.declared.kinds.Turn.the-variants.{
   PutTaken,
   PutLapsed,
 }
-use Rattle.rules.specs.declared.kinds.Request.{Request}
-use Rattle.rules.specs.declared.kinds.Message.{Message}
-use Rattle.rules.specs.declared.kinds.Answer.the-variants.{Done}
-use Rattle.rules.specs.declared.kinds.Event.{Event}
-use Rattle.rules.specs.declared.kinds.Event.the-variants.{
+use Rattle.rules.specs.declared.Request.{Request}
+use Rattle.rules.specs.declared.Message.{Message}
+use Rattle.rules.specs.declared.Answer.the-variants.{Done}
+use Rattle.rules.specs.declared.Event.{Event}
+use Rattle.rules.specs.declared.Event.the-variants.{
   Load,
   Store,
   Drop,
@@ -96,6 +94,7 @@ use Rattle.rules.proofs.Lists.{
   All-at,
   All-keep,
 }
+use Rattle.rules.proofs.Mask.{sharers-named}
 use Rattle.rules.proofs.Board.{
   pick,
   here,
@@ -122,7 +121,7 @@ use Rattle.rules.proofs.Turns.{
   put-taken,
   put-lapsed,
 }
-use Rattle.rules.proofs.Refusals.{None, refused-cases}
+use Rattle.rules.proofs.Refusals.{refused-cases}
 
 -- The line
 
@@ -143,18 +142,18 @@ distinct-keep f (x ∷ l) d = cond-cases Distinct (f x) (x ∷ keep f l) (keep f
 -- A message that is awaited
 
 -- the match of a cell with an order number
-abbrev Awaits : ℕ → Cell → Type 0
-Awaits n y = (waits (y .state) && eqb (y .awaits .0) n) ≡ true
+abbrev Awaits : OrderNo → Cell → Type 0
+Awaits n y = (waits (y .state) && sameNumber (y .awaits) n) ≡ true
 
 pub live-waits : (B : Block) (m : Message) → live B m ≡ true → waits (B .cell (m .receiver) .state) ≡ true
 unfolding live
-live-waits B m h = and-l (waits (B .cell (m .receiver) .state)) (eqb (B .cell (m .receiver) .awaits .0) (m .number .0)) h
+live-waits B m h = and-l (waits (B .cell (m .receiver) .state)) (sameNumber (B .cell (m .receiver) .awaits) (m .number)) h
 
 -- one cell goes to a state without data on its way: no message becomes live there
 calm-live : (B : Block) (k : ℕ) (x : Cell) (m : Message) → waits (x .state) ≡ false
     → live (withCell B k x) m ≡ true → live B m ≡ true
 unfolding live
-calm-live B k x m h = replace-cases (λ y. Awaits (m .number .0) y → live B m ≡ true) (B .cell) k x (m .receiver)
+calm-live B k x m h = replace-cases (λ y. Awaits (m .number) y → live B m ≡ true) (B .cell) k x (m .receiver)
     (λ _ p. absurd (clash (and-l (waits (x .state)) (eqb (x .awaits .0) (m .number .0)) p) h)) (λ _ p. p)
 
 -- a card's other requests stand
@@ -165,7 +164,7 @@ cell-stands B k x j kind ne p = replace-cases (λ y. comesFrom kind (y .state) �
 module _ {c : Chassis} {log : List Did} (inv : Inv c log) where
   -- Block b anew
 
-  changed-ok : (b : ℕ) (B : Block) (l : List Request) (p : List Message) (n : ℕ) (d : Did) → Only b d
+  changed-ok : (b : ℕ) (B : Block) (l : List Request) (p : List Message) (n : OrderNo) (d : Did) → Only b d
       → BlockOk (c .cards) B (pending b (d ∷ log)) (base b (d ∷ log))
       → All (λ m. MessageOk n (replace (c .block) b B (m .block)) m) p
       → All (λ r. RequestOk (replace (c .block) b B (r .block)) r) l
@@ -181,7 +180,7 @@ module _ {c : Chassis} {log : List Did} (inv : Inv c log) where
   }
 
   -- the messages, where block b becomes B
-  messages-ok : (b : ℕ) (B : Block) (n : ℕ) → c .last .0 ≤ n
+  messages-ok : (b : ℕ) (B : Block) (n : OrderNo) → c .last .0 ≤ n .0
       → ((m : Message) → m .number .0 ≤ c .last .0 → live B m ≡ true
       → (live (c .block b) m ≡ true) × (B .memory ≡ c .block b .memory))
       → All (λ m. MessageOk n (replace (c .block) b B (m .block)) m) (c .pool)
@@ -214,7 +213,7 @@ module _ {c : Chassis} {log : List Did} (inv : Inv c log) where
   -- Events that change no block
 
   -- the pool anew
-  pool-ok : (p : List Message) → All (λ m. MessageOk (c .last .0) (c .block (m .block)) m) p → Inv (poolChanged c p) (quiet ∷ log)
+  pool-ok : (p : List Message) → All (λ m. MessageOk (c .last) (c .block (m .block)) m) p → Inv (poolChanged c p) (quiet ∷ log)
   unfolding pending base
   pool-ok p h = record { few = inv .few; blocks-ok = inv .blocks-ok; messages = h; requests = inv .requests; distinct = inv .distinct }
 
@@ -238,10 +237,10 @@ module _ {c : Chassis} {log : List Did} (inv : Inv c log) where
   store-ok k b v h =
       let y = storing v (cellOf c k b) in
       let B = withCell (c .block b) k y in
-      changed-ok b B (c .line) (c .pool) (c .last .0) (stored k b v) only-stored
+      changed-ok b B (c .line) (c .pool) (c .last) (stored k b v) only-stored
       (rw (eq-eqb b b refl) (store-block (inv .blocks-ok b) k v h))
-      (messages-ok b B (c .last .0) (omega arith) (λ m _ p. (
-        replace-cases (λ z. Awaits (m .number .0) z → live (c .block b) m ≡ true) (c .block b .cell) k y (m .receiver)
+      (messages-ok b B (c .last) (omega arith) (λ m _ p. (
+        replace-cases (λ z. Awaits (m .number) z → live (c .block b) m ≡ true) (c .block b .cell) k y (m .receiver)
             (λ e q. rw (← e) q) (λ _ q. q) p,
         refl,
       )))
@@ -255,9 +254,9 @@ module _ {c : Chassis} {log : List Did} (inv : Inv c log) where
   drop-ok k b h =
       let B = withCell (c .block b) k idle in
       let l = inv .blocks-ok b .cells k .code in
-      changed-ok b B (c .line) (c .pool) (c .last .0) quiet only-quiet
+      changed-ok b B (c .line) (c .pool) (c .last) quiet only-quiet
       (drop-block (inv .blocks-ok b) k h)
-      (messages-ok b B (c .last .0) (omega arith) (λ m _ p. (calm-live (c .block b) k idle m (idle-calm .waits-not) p, refl)))
+      (messages-ok b B (c .last) (omega arith) (λ m _ p. (calm-live (c .block b) k idle m (idle-calm .waits-not) p, refl)))
       (requests-ok b B k (c .line) (cell-stands (c .block b) k idle) (inv .requests)
       (none-waiting k b (λ kind w. clash h (asking kind (stateOf c k b) l w .drops-not))))
       (inv .distinct)
@@ -268,12 +267,12 @@ module _ {c : Chassis} {log : List Did} (inv : Inv c log) where
   ask-ok k b kind mask k< kind< h =
       let x = goes (asked kind (stateOf c k b)) (cellOf c k b) in
       let B = withCell (c .block b) k x in
-      let r = request k b kind mask in
+      let r = aRequest k b kind mask firstRetry in
       let t = asks kind (stateOf c k b) kind< (inv .blocks-ok b .cells k .code) h in
       let free = none-waiting k b (t .none-waiting) in
-      changed-ok b B (c .line ++ r ∷ []) (c .pool) (c .last .0) quiet only-quiet
+      changed-ok b B (c .line ++ r ∷ []) (c .pool) (c .last) quiet only-quiet
       (ask-block (inv .blocks-ok b) k kind k< kind< h)
-      (messages-ok b B (c .last .0) (omega arith) (λ m _ p. (calm-live (c .block b) k x m (t .waits-not) p, refl)))
+      (messages-ok b B (c .last) (omega arith) (λ m _ p. (calm-live (c .block b) k x m (t .waits-not) p, refl)))
       (All-append (λ r. RequestOk (replace (c .block) b B (r .block)) r) (c .line) (r ∷ [])
       (requests-ok b B k (c .line) (cell-stands (c .block b) k x) (inv .requests) free)
       (rw (replace-same (c .block) b B) (rw (replace-same (c .block b .cell) k x) (t .stands)), tt))
@@ -283,34 +282,34 @@ module _ {c : Chassis} {log : List Did} (inv : Inv c log) where
   abbrev pub Keeps : Event → Result → Type 0
   Keeps e o = Inv (o .after) (did c e (o .answer) ∷ log)
 
-  deliver-ok : (i : ℕ) → i < length (c .pool) → Keeps (Deliver i) (deliver c i (messageAt c i))
+  deliver-ok : (i : ℕ) → i < length (c .pool) → Keeps (Deliver i) (deliver c i (messageOf c i))
   unfolding pending base deliver did didAccepted
   deliver-ok i l =
-      let m = messageAt c i in
+      let m = messageOf c i in
       let b = m .block in
       let k = m .receiver in
       let B = c .block b in
       let s = B .cell k .state in
       let code = inv .blocks-ok b .cells k .code in
-      let mok = All-at (λ m. MessageOk (c .last .0) (c .block (m .block)) m) (c .pool) i _ l (inv .messages) in
+      let mok = All-at (λ m. MessageOk (c .last) (c .block (m .block)) m) (c .pool) i _ l (inv .messages) in
       let x = takes m (B .cell k) in
       let B′ = withCell B k x in
       cond-cases (Keeps (Deliver i)) (live B m) _ _
       (λ e. let w = live-waits B m e in
-      changed-ok b B′ (c .line) (removed i (c .pool)) (c .last .0) quiet only-quiet
+      changed-ok b B′ (c .line) (removed i (c .pool)) (c .last) quiet only-quiet
       (fill-block (inv .blocks-ok b) k m w (mok .carries e))
-      (All-removed (λ a. MessageOk (c .last .0) (replace (c .block) b B′ (a .block)) a) i (c .pool)
-      (messages-ok b B′ (c .last .0) (omega arith) (λ a _ p. (calm-live B k x a (filled s code w .waits-not) p, refl))))
+      (All-removed (λ a. MessageOk (c .last) (replace (c .block) b B′ (a .block)) a) i (c .pool)
+      (messages-ok b B′ (c .last) (omega arith) (λ a _ p. (calm-live B k x a (filled s code w .waits-not) p, refl))))
       (requests-ok b B′ k (c .line) (cell-stands B k x) (inv .requests)
       (none-waiting k b (λ kind q. clash w (asking kind s code q .waits-not))))
       (inv .distinct))
-      (λ _. pool-ok (removed i (c .pool)) (All-removed (λ a. MessageOk (c .last .0) (c .block (a .block)) a) i (c .pool) (inv .messages)))
+      (λ _. pool-ok (removed i (c .pool)) (All-removed (λ a. MessageOk (c .last) (c .block (a .block)) a) i (c .pool) (inv .messages)))
 
-  copy-ok : (i : ℕ) → i < length (c .pool) → Inv (poolChanged c (c .pool ++ messageAt c i ∷ [])) (quiet ∷ log)
+  copy-ok : (i : ℕ) → i < length (c .pool) → Inv (poolChanged c (c .pool ++ messageOf c i ∷ [])) (quiet ∷ log)
   copy-ok i l =
-      let P : Message → Type 0 = λ m. MessageOk (c .last .0) (c .block (m .block)) m in
-      pool-ok (c .pool ++ messageAt c i ∷ [])
-      (All-append P (c .pool) (messageAt c i ∷ []) (inv .messages) (All-at P (c .pool) i _ l (inv .messages), tt))
+      let P : Message → Type 0 = λ m. MessageOk (c .last) (c .block (m .block)) m in
+      pool-ok (c .pool ++ messageOf c i ∷ [])
+      (All-append P (c .pool) (messageOf c i ∷ []) (inv .messages) (All-at P (c .pool) i _ l (inv .messages), tt))
 
   -- Rejoin
 
@@ -334,18 +333,18 @@ module _ {c : Chassis} {log : List Did} (inv : Inv c log) where
   -- Order: what is left to show once its block is known
 
   ordered-ok : (b q : ℕ) (B′ : Block) (l : List Request) (p : List Message) (d : Did) → Only b d
-      → Ordered (c .cards) (c .block b) B′ q (suc (c .last .0)) (pending b (d ∷ log)) (base b (d ∷ log))
-      → All (λ m. MessageOk (suc (c .last .0)) (replace (c .block) b B′ (m .block)) m) p
+      → Ordered (c .cards) (c .block b) B′ q (nextNumber (c .last)) (pending b (d ∷ log)) (base b (d ∷ log))
+      → All (λ m. MessageOk (nextNumber (c .last)) (replace (c .block) b B′ (m .block)) m) p
       → All (λ r. RequestOk (replace (c .block) b B′ (r .block)) r) l → Distinct l
-      → Inv (changed c b B′ l (c .pool ++ p) (suc (c .last .0))) (d ∷ log)
+      → Inv (changed c b B′ l (c .pool ++ p) (nextNumber (c .last))) (d ∷ log)
   unfolding live
   ordered-ok b q B′ l p d only or ms rs ds =
-      let n = suc (c .last .0) in
+      let n = nextNumber (c .last) in
       changed-ok b B′ l (c .pool ++ p) n d only (ordered-block or)
       (All-append (λ m. MessageOk n (replace (c .block) b B′ (m .block)) m) (c .pool) p
       (messages-ok b B′ n (omega arith) (λ m g h.
       let x = B′ .cell (m .receiver) in
-      let w = or .seen (m .receiver) .waits-only (and-l (waits (x .state)) (eqb (x .awaits .0) (m .number .0)) h) .1 in
+      let w = ap (λ (i : OrderNo). i .0) (or .seen (m .receiver) .waits-only (and-l (waits (x .state)) (eqb (x .awaits .0) (m .number .0)) h) .1) in
       let e = eqb-true (x .awaits .0) (m .number .0) (and-r (waits (x .state)) (eqb (x .awaits .0) (m .number .0)) h) in
       absurd (omega arith))) ms) rs ds
 
@@ -354,8 +353,8 @@ module _ {c : Chassis} {log : List Did} (inv : Inv c log) where
     abbrev Head : Block
     Head = c .block (r .block)
 
-    abbrev Next : ℕ
-    Next = suc (c .last .0)
+    abbrev Next : OrderNo
+    Next = nextNumber (c .last)
 
     abbrev After : Turn → Block
     After t = ordered t Head r Next
@@ -414,12 +413,12 @@ module _ {c : Chassis} {log : List Did} (inv : Inv c log) where
     )
 
     -- a grant settles the block's stores
-    grants : (t : Turn)
+    settles-ok : (t : Turn)
         → Ordered (c .cards) Head (After t) (r .card) Next [] (pick here (pending (r .block) log) (base (r .block) log))
         → (p : List Message) → All (λ m. MessageOk Next (replace (c .block) (r .block) (After t) (m .block)) m) p
         → Inv (changed c (r .block) (After t) (rest ++ []) (c .pool ++ p) Next) (settles (headBlock (c .line)) ∷ log)
     unfolding pending base
-    grants t or p ms = rw head-block (leaves t (settles (r .block)) only-settles (rw (eq-eqb (r .block) (r .block) refl) or) p ms)
+    settles-ok t or p ms = rw head-block (leaves t (settles (r .block)) only-settles (rw (eq-eqb (r .block) (r .block) refl) or) p ms)
 
     -- a request that is no GETS and no PUTX is a GETX
     is-getx : eqb (r .kind) putx ≡ false → eqb (r .kind) gets ≡ false → r .kind ≡ getx
@@ -427,26 +426,17 @@ module _ {c : Chassis} {log : List Did} (inv : Inv c log) where
         let t = asking (r .kind) (Head .cell (r .card) .state) (inv .blocks-ok (r .block) .cells (r .card) .code) (waiting .0) .kind-is in
         eqb-true (r .kind) getx (test (eqb (r .kind) getx) (λ y. y) (λ y. absurd (clash t (rw (g, y, e)))))
 
-    asker-stays : (t : Turn) → ((x : Cell) → askerSees t Next x ≡ x) → After t .cell (r .card) ≡ Head .cell (r .card)
+    asker-stays : (t : Turn) → ((x : Cell) → upshotOf t .askerSees Next x ≡ x) → After t .cell (r .card) ≡ Head .cell (r .card)
     unfolding ordered sees
     asker-stays t e = rw (eq-eqb (r .card) (r .card) refl) (e (Head .cell (r .card)))
 
-    -- every sharer but the asker is in a mask that suffices for GETX
-    sharers-named : eqb (r .kind) gets ≡ false → suffices (c .cards) Head r ≡ true
-        → (k : ℕ) → k < c .cards → has (Head .sharers) k ≡ true → r .card ≢ k → has (r .mask) k ≡ true
-    unfolding suffices
-    sharers-named g f k k< sh ne =
-        let t = imp (all-elim (c .cards) (λ k. has (Head .sharers) k ⇒ eqb k (r .card) || has (r .mask) k)
-        (rw g at (and-r (eqb (Head .owner) home || has (r .mask) (Head .owner)) _ f)) k k<) sh in
-        rw (ne-eqb k (r .card) (λ e. ne (sym e))) at t
-
     -- what the turn leaves of the chassis
     abbrev At : Turn → Result
-    At t = result (Done (outcomeNo t))
-        (changed c (r .block) (After t) (rest ++ again t (c .cards) Head r) (c .pool ++ sent t Head r Next) Next)
+    At t = result (Done (upshotOf t .outcome))
+        (changed c (r .block) (After t) (rest ++ upshotOf t .again (c .cards) Head r) (c .pool ++ upshotOf t .sent Head r Next) Next)
 
     order-head-ok : Keeps Order (orderHead c r rest)
-    unfolding orderHead did didAccepted outcomeNo turn sent again askerSees pending base
+    unfolding orderHead did didAccepted turn upshotOf pending base
     order-head-ok =
         let ok = inv .blocks-ok (r .block) in
         let s = Head .cell (r .card) .state in
@@ -456,27 +446,27 @@ module _ {c : Chassis} {log : List Did} (inv : Inv c log) where
         let K : Turn → Type 0 = λ t. Keeps Order (At t) in
         cond-cases K (eqb (r .kind) putx) _ _
         (λ e. cond-cases K (putStands s) PutTaken PutLapsed
-        (λ f. grants PutTaken (put-taken ok (inv .few) free r Next (put-stores s l f)) [] tt)
+        (λ f. settles-ok PutTaken (put-taken ok (inv .few) free r Next (put-stores s l f)) [] tt)
         (λ f. leaves PutLapsed quiet only-quiet
         (put-lapsed ok (inv .few) free r Next (lapsed-calm s l (from putx (eqb-true (r .kind) putx e)) f)) [] tt))
         (λ e. cond-cases K (suffices (c .cards) Head r) _ _
         (λ f. cond-cases K (eqb (r .kind) gets) GetsGranted GetxGranted
         (λ g. let or = gets-ordered ok (inv .few) free r Next (from gets (eqb-true (r .kind) gets g)) in
-        grants GetsGranted or (dataFor Head r Next ∷ []) (data-ok GetsGranted or))
-        (λ g. let or = getx-ordered ok (inv .few) free r Next (from getx (is-getx e g)) (sharers-named g f) in
-        grants GetxGranted or (dataFor Head r Next ∷ []) (data-ok GetxGranted or)))
+        settles-ok GetsGranted or (dataFor Head r Next ∷ []) (data-ok GetsGranted or))
+        (λ g. let or = getx-ordered ok (inv .few) free r Next (from getx (is-getx e g)) (sharers-named (c .cards) Head r g f) in
+        settles-ok GetxGranted or (dataFor Head r Next ∷ []) (data-ok GetxGranted or)))
         (λ f. cond-cases K (eqb (r .kind) gets) GetsMissed GetxMissed
         (λ g. returned GetsMissed (gets-missed ok (inv .few) free r Next) (asker-stays GetsMissed (λ _. refl)))
         (λ g. returned GetxMissed (getx-missed ok (inv .few) free r Next) (asker-stays GetxMissed (λ _. refl)))))
 
-  order-ok : (l : List Request) → c .line ≡ l → None (orderReasons c l) → Keeps Order (order c l)
+  order-ok : (l : List Request) → c .line ≡ l → NoneHolds (orderReasons c l) → Keeps Order (order c l)
   unfolding order orderReasons
   order-ok [] at h = absurd (true≢false (h .0))
   order-ok (r ∷ rest) at h = order-head-ok r rest at (h .1 .0)
 
   -- Every event
 
-  effect-ok : (e : Event) → None (reasons c e) → Keeps e (effect c e)
+  effect-ok : (e : Event) → NoneHolds (reasons c e) → Keeps e (effect c e)
   unfolding reasons rightReasons noCard noBlock noMessage effect did didAccepted
   effect-ok (Load k b) h = loaded-ok k b (cellOf c k b .value)
   effect-ok (Store k b v) h = store-ok k b v (not-false (stores (stateOf c k b)) (h .1 .1 .0))

@@ -13,18 +13,14 @@ use Rattle.rules.specs.Table.{stores, waits, isReader, comesFrom, seesGe
 use Rattle.rules.specs.Chassis.{Block, idle, goes}
 use Rattle.rules.specs.Order.{
   given,
-  memoryAfter,
-  ownerAfter,
-  sharersAfter,
-  askerSees,
-  ownerSees,
-  readerSees,
+  upshotOf,
   sees,
   ordered,
 }
-use Rattle.rules.specs.declared.kinds.Cell.{Cell}
-use Rattle.rules.specs.declared.kinds.Turn.{Turn}
-use Rattle.rules.specs.declared.kinds.Turn.the-variants.{
+use Rattle.rules.specs.declared.OrderNo.{OrderNo}
+use Rattle.rules.specs.declared.Cell.{Cell}
+use Rattle.rules.specs.declared.Turn.{Turn}
+use Rattle.rules.specs.declared.Turn.the-variants.{
   GetsGranted,
   GetxGranted,
   GetsMissed,
@@ -32,7 +28,7 @@ use Rattle.rules.specs.declared.kinds.Turn.the-variants.{
   PutTaken,
   PutLapsed,
 }
-use Rattle.rules.specs.declared.kinds.Request.{Request}
+use Rattle.rules.specs.declared.Request.{Request}
 use Rattle.rules.proofs.Tests.{clash, test, cond-cases, false-if, or-i}
 use Rattle.rules.proofs.Lists.{All-map}
 use Rattle.rules.proofs.Masks.{has-union-l, has-union-r, has-only}
@@ -62,10 +58,10 @@ use Rattle.rules.proofs.Holders.{
 }
 
 -- a card sees a request: by the part that it has
-pub sees-cases : (P : Cell → Type 0) (t : Turn) (B : Block) (r : Request) (n k : ℕ)
-    → (r .card ≡ k → P (askerSees t n (B .cell k)))
-    → (r .card ≢ k → B .owner ≡ k → P (ownerSees t (B .cell k)))
-    → (r .card ≢ k → B .owner ≢ k → has (r .mask) k ≡ true → P (readerSees t (B .cell k)))
+pub sees-cases : (P : Cell → Type 0) (t : Turn) (B : Block) (r : Request) (n : OrderNo) (k : ℕ)
+    → (r .card ≡ k → P (upshotOf t .askerSees n (B .cell k)))
+    → (r .card ≢ k → B .owner ≡ k → P (upshotOf t .ownerSees (B .cell k)))
+    → (r .card ≢ k → B .owner ≢ k → has (r .mask) k ≡ true → P (upshotOf t .readerSees (B .cell k)))
     → (r .card ≢ k → B .owner ≢ k → has (r .mask) k ≡ false → P (B .cell k))
     → P (sees t B r n k)
 unfolding sees
@@ -73,32 +69,32 @@ sees-cases P t B r n k f g h i =
     let q = r .card in
     let o = B .owner in
     let x = B .cell k in
-    cond-cases P (eqb q k) (askerSees t n x) _ (λ e. f (eqb-true q k e))
-    (λ e. cond-cases P (eqb o k) (ownerSees t x) _ (λ e′. g (eqb-false q k e) (eqb-true o k e′))
-    (λ e′. cond-cases P (has (r .mask) k) (readerSees t x) x
+    cond-cases P (eqb q k) (upshotOf t .askerSees n x) _ (λ e. f (eqb-true q k e))
+    (λ e. cond-cases P (eqb o k) (upshotOf t .ownerSees x) _ (λ e′. g (eqb-false q k e) (eqb-true o k e′))
+    (λ e′. cond-cases P (has (r .mask) k) (upshotOf t .readerSees x) x
     (h (eqb-false q k e) (eqb-false o k e′)) (i (eqb-false q k e) (eqb-false o k e′))))
 
 -- a turn in which only the asker moves
-others-stay : (P : Cell → Type 0) (t : Turn) (B : Block) (r : Request) (n k : ℕ)
-    → ((x : Cell) → ownerSees t x ≡ x) → ((x : Cell) → readerSees t x ≡ x)
-    → (r .card ≡ k → P (askerSees t n (B .cell k))) → (r .card ≢ k → P (B .cell k)) → P (sees t B r n k)
+others-stay : (P : Cell → Type 0) (t : Turn) (B : Block) (r : Request) (n : OrderNo) (k : ℕ)
+    → ((x : Cell) → upshotOf t .ownerSees x ≡ x) → ((x : Cell) → upshotOf t .readerSees x ≡ x)
+    → (r .card ≡ k → P (upshotOf t .askerSees n (B .cell k))) → (r .card ≢ k → P (B .cell k)) → P (sees t B r n k)
 others-stay P t B r n k o e f g = sees-cases P t B r n k f
     (λ h _. subst P (sym (o (B .cell k))) (g h)) (λ h _ _. subst P (sym (e (B .cell k))) (g h)) (λ h _ _. g h)
 
 -- what becomes of cell x of card j, where card q's request is ordered under number n
-pub record Seen (cards owner sharers memory current q n j : ℕ) (x y : Cell) : Type 0 where
+pub record Seen (cards owner sharers memory current q : ℕ) (n : OrderNo) (j : ℕ) (x y : Cell) : Type 0 where
   pub cell-ok : CellOk cards owner sharers memory current j y
-  pub waits-only : waits (y .state) ≡ true → (q ≡ j) × (y .awaits .0 ≡ n)
+  pub waits-only : waits (y .state) ≡ true → (q ≡ j) × (y .awaits ≡ n)
   pub stands : (kind : ℕ) → q ≢ j → comesFrom kind (x .state) ≡ true → comesFrom kind (y .state) ≡ true
 
 -- what an Order of request r under number n leaves of block B
-pub record Ordered (cards : ℕ) (B B′ : Block) (q n : ℕ) (ws : List Write) (d : ℕ) : Type 0 where
+pub record Ordered (cards : ℕ) (B B′ : Block) (q : ℕ) (n : OrderNo) (ws : List Write) (d : ℕ) : Type 0 where
   pub seen : (j : ℕ) → Seen cards (B′ .owner) (B′ .sharers) (B′ .memory) (pick here ws d) q n j (B .cell j) (B′ .cell j)
   pub owner-ok : B′ .owner ≢ home → owns (B′ .cell (B′ .owner) .state) ≡ true
   pub writes : All (λ w. stores (B′ .cell (w .card) .state) ≡ true) ws
   pub memory-is : B′ .memory ≡ d
 
-pub ordered-block : {cards : ℕ} {B B′ : Block} {q n : ℕ} {ws : List Write} {d : ℕ}
+pub ordered-block : {cards : ℕ} {B B′ : Block} {q : ℕ} {n : OrderNo} {ws : List Write} {d : ℕ}
     → Ordered cards B B′ q n ws d → BlockOk cards B′ ws d
 ordered-block or = record {
   cells = λ k. or .seen k .cell-ok;
@@ -108,7 +104,7 @@ ordered-block or = record {
 }
 
 -- a cell that is calm afterwards
-calm-seen : (cards owner sharers memory current q n j : ℕ) (x y : Cell) → Calm (y .state) → (eqb (y .state) I ≡ false → j < cards)
+calm-seen : (cards owner sharers memory current q : ℕ) (n : OrderNo) (j : ℕ) (x y : Cell) → Calm (y .state) → (eqb (y .state) I ≡ false → j < cards)
     → ((kind : ℕ) → q ≢ j → comesFrom kind (x .state) ≡ true → comesFrom kind (y .state) ≡ true)
     → Seen cards owner sharers memory current q n j x y
 calm-seen cards owner sharers memory current q n j x y h l st = record {
@@ -120,17 +116,17 @@ calm-seen cards owner sharers memory current q n j x y h l st = record {
 module _ {cards : ℕ} {B : Block} {ws : List Write} {d : ℕ} (ok : BlockOk cards B ws d) (few : cards ≤ home)
     (free : (k : ℕ) → waits (B .cell k .state) ≡ false) where
   -- a cell that is not moved, where home's part stays
-  same-seen : (q n j : ℕ) → Seen cards (B .owner) (B .sharers) (B .memory) (pick here ws d) q n j (B .cell j) (B .cell j)
+  same-seen : (q : ℕ) (n : OrderNo) (j : ℕ) → Seen cards (B .owner) (B .sharers) (B .memory) (pick here ws d) q n j (B .cell j) (B .cell j)
   same-seen q n j = record { cell-ok = ok .cells j; waits-only = λ p. absurd (clash p (free j)); stands = λ _ _ p. p }
 
   -- a calm cell that is not moved, where home's part may not stay
-  still-calm : (owner sharers memory current q n j : ℕ) → Calm (B .cell j .state)
+  still-calm : (owner sharers memory current q : ℕ) (n : OrderNo) (j : ℕ) → Calm (B .cell j .state)
       → Seen cards owner sharers memory current q n j (B .cell j) (B .cell j)
   still-calm owner sharers memory current q n j h =
       calm-seen cards owner sharers memory current q n j (B .cell j) (B .cell j) h (ok .cells j .inside) (λ _ _ p. p)
 
   -- a reader that moves
-  reader-moves : (owner sharers memory current q n j : ℕ) → isReader (B .cell j .state) ≡ true
+  reader-moves : (owner sharers memory current q : ℕ) (n : OrderNo) (j : ℕ) → isReader (B .cell j .state) ≡ true
       → Seen cards owner sharers memory current q n j (B .cell j) (goes (seesGetx (B .cell j .state)) (B .cell j))
   reader-moves owner sharers memory current q n j h =
       let s = B .cell j .state in
@@ -141,7 +137,7 @@ module _ {cards : ℕ} {B : Block} {ws : List Write} {d : ℕ} (ok : BlockOk car
       (λ kind _ p. asking kind s l p .getx-stands)
 
   -- an idle cell that sees a request stays idle, and is all right beside anything
-  idle-moves : (owner sharers memory current q n j t : ℕ) → eqb (B .cell j .state) I ≡ true → t ≡ I
+  idle-moves : (owner sharers memory current q : ℕ) (n : OrderNo) (j t : ℕ) → eqb (B .cell j .state) I ≡ true → t ≡ I
       → Seen cards owner sharers memory current q n j (B .cell j) (goes t (B .cell j))
   idle-moves owner sharers memory current q n j t i e =
       calm-seen cards owner sharers memory current q n j (B .cell j) (goes t (B .cell j))
@@ -149,11 +145,11 @@ module _ {cards : ℕ} {B : Block} {ws : List Write} {d : ℕ} (ok : BlockOk car
       (λ p. absurd (clash (eq-eqb t I e) p))
       (λ kind _ p. absurd (clash i (asking kind (B .cell j .state) (ok .cells j .code) p .there)))
 
-  module _ (r : Request) (n : ℕ) where
+  module _ (r : Request) (n : OrderNo) where
     -- a granted GETS
     pub gets-ordered : comesFrom gets (B .cell (r .card) .state) ≡ true
         → Ordered cards B (ordered GetsGranted B r n) (r .card) n [] (pick here ws d)
-    unfolding ordered memoryAfter ownerAfter sharersAfter askerSees ownerSees readerSees pick
+    unfolding ordered upshotOf pick
     gets-ordered asks =
         let q = r .card in
         let o = B .owner in
@@ -222,7 +218,7 @@ module _ {cards : ℕ} {B : Block} {ws : List Write} {d : ℕ} (ok : BlockOk car
     pub getx-ordered : comesFrom getx (B .cell (r .card) .state) ≡ true
         → ((k : ℕ) → k < cards → has (B .sharers) k ≡ true → r .card ≢ k → has (r .mask) k ≡ true)
         → Ordered cards B (ordered GetxGranted B r n) (r .card) n [] (pick here ws d)
-    unfolding ordered memoryAfter ownerAfter sharersAfter askerSees ownerSees readerSees pick sees
+    unfolding ordered upshotOf pick sees
     getx-ordered asks enough =
         let q = r .card in
         let o = B .owner in
@@ -271,7 +267,7 @@ module _ {cards : ℕ} {B : Block} {ws : List Write} {d : ℕ} (ok : BlockOk car
     missed-cases : (P : ℕ → Cell → Type 0) → ((j : ℕ) → P j (B .cell j))
         → ((j : ℕ) → isReader (B .cell j .state) ≡ true → P j (goes (seesGetx (B .cell j .state)) (B .cell j)))
         → (j : ℕ) → P j (sees GetxMissed B r n j)
-    unfolding askerSees ownerSees readerSees
+    unfolding upshotOf
     missed-cases P f g j = sees-cases (P j) GetxMissed B r n j (λ _. f j) (λ _ _. f j)
         (λ _ _ _. cond-cases (P j) (isReader (B .cell j .state)) (goes (seesGetx (B .cell j .state)) (B .cell j)) (B .cell j)
         (λ h. g j h) (λ _. f j)) (λ _ _ _. f j)
@@ -280,7 +276,7 @@ module _ {cards : ℕ} {B : Block} {ws : List Write} {d : ℕ} (ok : BlockOk car
     not-reader j p h = clash h (state (B .cell j .state) (ok .cells j .code) .owns-reader p)
 
     pub getx-missed : Ordered cards B (ordered GetxMissed B r n) (r .card) n ws d
-    unfolding ordered memoryAfter ownerAfter sharersAfter
+    unfolding ordered upshotOf
     getx-missed = record {
       seen = missed-cases (λ j y. Seen cards (B .owner) (B .sharers) (B .memory) (pick here ws d) (r .card) n j (B .cell j) y)
           (same-seen (r .card) n)
@@ -294,7 +290,7 @@ module _ {cards : ℕ} {B : Block} {ws : List Write} {d : ℕ} (ok : BlockOk car
 
     -- a missed GETS: nobody moves
     pub gets-missed : Ordered cards B (ordered GetsMissed B r n) (r .card) n ws d
-    unfolding ordered memoryAfter ownerAfter sharersAfter askerSees ownerSees readerSees
+    unfolding ordered upshotOf
     gets-missed =
         let whole : (P : Cell → Type 0) (j : ℕ) → P (B .cell j) → P (sees GetsMissed B r n j)
         = λ P j f. others-stay P GetsMissed B r n j (λ _. refl) (λ _. refl) (λ _. f) (λ _. f) in
@@ -313,7 +309,7 @@ module _ {cards : ℕ} {B : Block} {ws : List Write} {d : ℕ} (ok : BlockOk car
         idle-calm (λ p. absurd (true≢false p)) (λ _ ne. absurd (ne e))
 
     pub put-taken : stores (B .cell (r .card) .state) ≡ true → Ordered cards B (ordered PutTaken B r n) (r .card) n [] (pick here ws d)
-    unfolding ordered memoryAfter ownerAfter sharersAfter askerSees ownerSees readerSees pick
+    unfolding ordered upshotOf pick
     put-taken h =
         let q = r .card in
         let own = stores-own ok q h in
@@ -330,7 +326,7 @@ module _ {cards : ℕ} {B : Block} {ws : List Write} {d : ℕ} (ok : BlockOk car
         }
 
     pub put-lapsed : Calm (B .cell (r .card) .state) → Ordered cards B (ordered PutLapsed B r n) (r .card) n ws d
-    unfolding ordered memoryAfter ownerAfter sharersAfter askerSees ownerSees readerSees
+    unfolding ordered upshotOf
     put-lapsed h =
         let q = r .card in
         let stay : (P : Cell → Type 0) (j : ℕ) → (q ≡ j → P idle) → (q ≢ j → P (B .cell j)) → P (sees PutLapsed B r n j)

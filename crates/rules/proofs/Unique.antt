@@ -1,5 +1,6 @@
 -- Why a contract that says what the answer equals leaves no second one.
-use mathlib.Core.Path.{_≡_, sym, _∙_}
+use mathlib.Core.Path.{sym, _∙_}
+use Rattle.rules.specs.Claims.{One-answer}
 
-pub one-answer : {A : Type 0} (d r q : A) → r ≡ d → q ≡ d → r ≡ q
-one-answer d r q h k = h ∙ sym k
+pub one-answer : One-answer
+one-answer A d r r′ h k = h ∙ sym k

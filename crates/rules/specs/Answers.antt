@@ -1,12 +1,14 @@
 -- "Numbers the engine says no with": the paper's refusal number and value for each answer.
 use Prim.Native.Nat.{ℕ}
-use mathlib.Core.Bool.{Bool, cond}
+use mathlib.Core.Bool.{Bool, true, false, cond}
 use mathlib.Core.List.{List, [], _∷_}
+use mathlib.Core.Path.{_≡_}
+use mathlib.Core.Logic.{_⊎_}
 use Rattle.rules.specs.Chassis.{Chassis}
-use Rattle.rules.specs.declared.kinds.Answer.{Answer}
-use Rattle.rules.specs.declared.kinds.Answer.the-variants.{Done, Refused}
-use Rattle.rules.specs.declared.kinds.Refusal.{Refusal}
-use Rattle.rules.specs.declared.kinds.Refusal.the-variants.{
+use Rattle.rules.specs.declared.Answer.{Answer}
+use Rattle.rules.specs.declared.Answer.the-variants.{Done, Refused}
+use Rattle.rules.specs.declared.Refusal.{Refusal}
+use Rattle.rules.specs.declared.Refusal.the-variants.{
   NoSuchCard,
   NoSuchBlock,
   NoRight,
@@ -73,3 +75,12 @@ r if t = record { why = r; holds = t }
 unfoldable pub refusedBy : Chassis → List Reason → Result → Result
 refusedBy c [] done = done
 refusedBy c (r ∷ rs) done = cond (r .holds) (result (Refused (r .why)) c) (refusedBy c rs done)
+
+-- x is the first of the reasons that hold; none of them holds
+abbrev pub FirstHolds : List Reason → Refusal → Type 0
+FirstHolds [] x = ⊥
+FirstHolds (r ∷ rs) x = ((r .holds ≡ true) × (r .why ≡ x)) ⊎ ((r .holds ≡ false) × FirstHolds rs x)
+
+abbrev pub NoneHolds : List Reason → Type 0
+NoneHolds [] = Unit {0}
+NoneHolds (r ∷ rs) = (r .holds ≡ false) × NoneHolds rs

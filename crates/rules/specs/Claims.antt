@@ -12,10 +12,14 @@ use Rattle.rules.specs.Events.{step, start}
 use Rattle.rules.specs.History.{run}
 use Rattle.rules.specs.Demand.{Coherent}
 use Rattle.rules.specs.Marked.{plays, markedTable, slips}
-use Rattle.rules.specs.declared.kinds.Answer.the-variants.{Done, Refused}
-use Rattle.rules.specs.declared.kinds.Refusal.{Refusal}
-use Rattle.rules.specs.declared.kinds.Refusal.the-variants.{IllFormed}
-use Rattle.rules.specs.declared.kinds.Event.{Event}
+use Rattle.rules.specs.declared.Answer.the-variants.{Done, Refused}
+use Rattle.rules.specs.declared.Refusal.{Refusal}
+use Rattle.rules.specs.declared.Refusal.the-variants.{IllFormed}
+use Rattle.rules.specs.declared.Event.{Event}
+
+-- a contract that says what the answer equals leaves no second one
+abbrev pub One-answer : Type 1
+One-answer = (A : Type 0) (d r r′ : A) → r ≡ d → r′ ≡ d → r ≡ r′
 
 -- M1 to M10
 abbrev pub Marked-hold : Type 0
@@ -44,10 +48,10 @@ Stays-formed = (c : Chassis) (e : Event) → wellFormed c ≡ true → wellForme
 
 -- the last order number is "64 bits wide, never set back"
 abbrev pub Never-set-back : Type 0
-Never-set-back = (c : Chassis) (e : Event) → c .last .0 ≤ lastNumber
-    → (c .last .0 ≤ step c e .after .last .0) × (step c e .after .last .0 ≤ lastNumber)
+Never-set-back = (c : Chassis) (e : Event) → c .last .0 ≤ lastNumber .0
+    → (c .last .0 ≤ step c e .after .last .0) × (step c e .after .last .0 ≤ lastNumber .0)
 
 -- Demand 3: "In any sequence of events other than Start from a freshly started chassis"
-abbrev pub Demand-3 : Type 0
-Demand-3 = (cards blocks v : ℕ) → start cards blocks .answer ≡ Done v
+abbrev pub Rules-coherent : Type 0
+Rules-coherent = (cards blocks v : ℕ) → start cards blocks .answer ≡ Done v
     → (es : List Event) → Coherent (run (start cards blocks .after) es)

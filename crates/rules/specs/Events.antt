@@ -2,34 +2,38 @@
 use Prim.Native.Nat.{ℕ, _^_, _<_}
 use mathlib.Core.Bool.{Bool, cond, not, _&&_}
 use mathlib.Core.List.{List, [], _∷_, _++_}
-use lib.ListN.{length, getD}
+use lib.ListN.{length}
 use lib.Dec.{eqb, leb}
 use Rattle.rules.specs.Lists.{replace, removed, keep}
 use Rattle.rules.specs.Masks.{only, without, inside}
-use Rattle.rules.specs.Numbers.{home, room, gets, putx, none, taken, stale}
+use Rattle.rules.specs.Numbers.{home, room, noNumber, sameNumber, firstRetry, gets, putx, none, taken, stale}
 use Rattle.rules.specs.Table.{loads, stores, drops, waits, asked, filledTo}
 use Rattle.rules.specs.Chassis.{
   Block,
   Chassis,
+  aCell,
+  aRequest,
+  aBlock,
   cellOf,
   stateOf,
   idle,
   fresh,
+  messageOf,
   goes,
+  storing,
   withCell,
+  like,
   changed,
   cellChanged,
   poolChanged,
-  unusedMessage,
 }
 use Rattle.rules.specs.Answers.{Result, result, Reason, _if_, refusedBy}
 use Rattle.rules.specs.Order.{order, orderReasons}
 use Rattle.rules.specs.Formed.{sizes, wellFormed}
-use Rattle.rules.specs.declared.kinds.Cell.{Cell}
-use Rattle.rules.specs.declared.kinds.Request.{Request}
-use Rattle.rules.specs.declared.kinds.Message.{Message}
-use Rattle.rules.specs.declared.kinds.Answer.the-variants.{Done}
-use Rattle.rules.specs.declared.kinds.Refusal.the-variants.{
+use Rattle.rules.specs.declared.Cell.{Cell}
+use Rattle.rules.specs.declared.Message.{Message}
+use Rattle.rules.specs.declared.Answer.the-variants.{Done}
+use Rattle.rules.specs.declared.Refusal.the-variants.{
   NoSuchCard,
   NoSuchBlock,
   NoRight,
@@ -42,8 +46,8 @@ use Rattle.rules.specs.declared.kinds.Refusal.the-variants.{
   NoSuchSize,
   IllFormed,
 }
-use Rattle.rules.specs.declared.kinds.Event.{Event}
-use Rattle.rules.specs.declared.kinds.Event.the-variants.{
+use Rattle.rules.specs.declared.Event.{Event}
+use Rattle.rules.specs.declared.Event.the-variants.{
   Load,
   Store,
   Drop,
@@ -92,36 +96,22 @@ reasons c (Copy i) = noMessage c i ∷ (PoolFull if leb room (length (c .pool)))
 -- "Rejoin: 1"
 reasons c (Rejoin k) = noCard c k ∷ []
 
--- Store
-
--- a store leaves the state and the awaited number
-abbrev pub storing : ℕ → Cell → Cell
-storing v x = record { state = x .state; value = v; awaits = x .awaits }
-
 -- Ask
 
--- "with retry 0"
-abbrev pub request : ℕ → ℕ → ℕ → ℕ → Request
-request k b kind mask = record { card = k; block = b; kind = kind; mask = mask; retry = record { 0 = 0 } }
-
--- "the cell moves by the table; the request joins the line's tail"
+-- "the cell moves by the table; the request joins the line's tail with retry 0"
 unfoldable pub ask : Chassis → ℕ → ℕ → ℕ → ℕ → Chassis
 ask c k b kind mask = changed c b (withCell (c .block b) k (goes (asked kind (stateOf c k b)) (cellOf c k b)))
-    (c .line ++ request k b kind mask ∷ []) (c .pool) (c .last .0)
+    (c .line ++ aRequest k b kind mask firstRetry ∷ []) (c .pool) (c .last)
 
 -- Deliver and Copy
 
--- the message at a position; an unused one is refused before it is looked at
-abbrev pub messageAt : Chassis → ℕ → Message
-messageAt c i = getD (c .pool) i unusedMessage
-
 -- "the receiver is in 6, 7 or 8 for that block and awaits that number"
 unfoldable pub live : Block → Message → Bool
-live B m = let x = B .cell (m .receiver) in waits (x .state) && eqb (x .awaits .0) (m .number .0)
+live B m = let x = B .cell (m .receiver) in waits (x .state) && sameNumber (x .awaits) (m .number)
 
 -- "it takes the value and goes to 1, 2 or 2": also from 8, where "a move between two Load states" would keep the old one
 abbrev pub takes : Message → Cell → Cell
-takes m x = record { state = filledTo (x .state); value = m .value; awaits = record { 0 = 0 } }
+takes m x = aCell (filledTo (x .state)) (m .value) noNumber
 
 -- "(outcome 1). Otherwise the message is stale (outcome 2). It leaves the pool either way; later ones close up."
 unfoldable pub deliver : Chassis → ℕ → Message → Result
@@ -130,30 +120,18 @@ deliver c i m =
     let rest = removed i (c .pool) in
     cond (live B m)
     (result (Done taken)
-    (changed c (m .block) (withCell B (m .receiver) (takes m (B .cell (m .receiver)))) (c .line) rest (c .last .0)))
+    (changed c (m .block) (withCell B (m .receiver) (takes m (B .cell (m .receiver)))) (c .line) rest (c .last)))
     (result (Done stale) (poolChanged c rest))
 
 -- Rejoin
 
 -- "its cells become I", "it leaves all sharer sets, blocks it owns go to home"; "Memory .. stay"
 unfoldable pub rejoinBlock : ℕ → Block → Block
-rejoinBlock k B = record {
-  memory = B .memory;
-  owner = cond (eqb (B .owner) k) home (B .owner);
-  sharers = without (B .sharers) (only k);
-  cell = replace (B .cell) k idle;
-}
+rejoinBlock k B = aBlock (B .memory) (cond (eqb (B .owner) k) home (B .owner)) (without (B .sharers) (only k)) (replace (B .cell) k idle)
 
 -- "its requests leave the line (the rest close up)"; "pool and order number stay"
 unfoldable pub rejoin : Chassis → ℕ → Chassis
-rejoin c k = record {
-  cards = c .cards;
-  blocks = c .blocks;
-  block = λ b. rejoinBlock k (c .block b);
-  line = keep (λ r. not (eqb (r .card) k)) (c .line);
-  pool = c .pool;
-  last = c .last;
-}
+rejoin c k = like c (λ b. rejoinBlock k (c .block b)) (keep (λ r. not (eqb (r .card) k)) (c .line)) (c .pool) (c .last)
 
 -- Every event
 
@@ -176,9 +154,9 @@ effect c (Store k b v) = result (Done 0) (cellChanged c k b (storing v (cellOf c
 effect c (Drop k b) = result (Done 0) (cellChanged c k b idle)
 effect c (Ask k b kind mask) = result (Done 0) (ask c k b kind mask)
 effect c Order = order c (c .line)
-effect c (Deliver i) = deliver c i (messageAt c i)
+effect c (Deliver i) = deliver c i (messageOf c i)
 -- "the message again, at the pool's tail"
-effect c (Copy i) = result (Done 0) (poolChanged c (c .pool ++ messageAt c i ∷ []))
+effect c (Copy i) = result (Done 0) (poolChanged c (c .pool ++ messageOf c i ∷ []))
 effect c (Rejoin k) = result (Done 0) (rejoin c k)
 
 -- "15 comes first wherever a state is handed in, so at every event but Start"

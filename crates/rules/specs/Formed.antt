@@ -11,16 +11,22 @@ use Rattle.rules.specs.Numbers.{
   mostBlocks,
   home,
   room,
+  noNumber,
+  sameNumber,
+  upToNumber,
   lastRetry,
+  sameRetry,
+  upToRetry,
   gets,
   putx,
   states,
 }
 use Rattle.rules.specs.Table.{loads, waits}
 use Rattle.rules.specs.Chassis.{Block, Chassis, idle, freshBlock}
-use Rattle.rules.specs.declared.kinds.Cell.{Cell}
-use Rattle.rules.specs.declared.kinds.Request.{Request}
-use Rattle.rules.specs.declared.kinds.Message.{Message}
+use Rattle.rules.specs.declared.OrderNo.{OrderNo}
+use Rattle.rules.specs.declared.Cell.{Cell}
+use Rattle.rules.specs.declared.Request.{Request}
+use Rattle.rules.specs.declared.Message.{Message}
 
 -- "1 to 8 cards .. 1 to 32 blocks"
 unfoldable pub sizes : ℕ → ℕ → Bool
@@ -31,16 +37,16 @@ unfoldable pub homeOrCard : ℕ → ℕ → Bool
 homeOrCard cards k = eqb k home || ltb k cards
 
 -- a cell of a card that is there, where last is the last order number given
-unfoldable pub okCell : ℕ → Cell → Bool
+unfoldable pub okCell : OrderNo → Cell → Bool
 okCell last x = each (
     -- "a .. code .. out of range"
     ltb (x .state) states ∷
     -- "an order number above the last given"
-    leb (x .awaits .0) last ∷
+    upToNumber (x .awaits) last ∷
     -- "an awaited number of 0 in 6, 7 or 8"
-    (waits (x .state) ⇒ not (eqb (x .awaits .0) 0)) ∷
+    (waits (x .state) ⇒ not (sameNumber (x .awaits) noNumber)) ∷
     -- "a cell against the two rules above": "the awaited number is 0 outside states 6, 7 and 8"
-    (not (waits (x .state)) ⇒ eqb (x .awaits .0) 0) ∷
+    (not (waits (x .state)) ⇒ sameNumber (x .awaits) noNumber) ∷
     -- "The value is 0 in a state without Load"
     (not (loads (x .state)) ⇒ eqb (x .value) 0) ∷ [])
 
@@ -49,10 +55,10 @@ unfoldable pub unusedCell : Cell → Bool
 unusedCell x = each (
     eqb (x .state) (idle .state) ∷
     eqb (x .value) (idle .value) ∷
-    eqb (x .awaits .0) (idle .awaits .0) ∷ [])
+    sameNumber (x .awaits) (idle .awaits) ∷ [])
 
 -- a block that is there
-unfoldable pub okBlock : ℕ → ℕ → Block → Bool
+unfoldable pub okBlock : ℕ → OrderNo → Block → Bool
 okBlock cards last B = each (
     -- "a .. card .. out of range"
     homeOrCard cards (B .owner) ∷
@@ -77,21 +83,21 @@ okRequest cards blocks r = each (
     leb gets (r .kind) ∷
     leb (r .kind) putx ∷
     inside cards (r .mask) ∷
-    leb (r .retry .0) lastRetry ∷
+    upToRetry (r .retry) lastRetry ∷
     -- "a retry of 3 with a mask other than every card"
-    (eqb (r .retry .0) lastRetry ⇒ eqb (r .mask) (every cards)) ∷ [])
+    (sameRetry (r .retry) lastRetry ⇒ eqb (r .mask) (every cards)) ∷ [])
 
 -- a message in the pool
-unfoldable pub okMessage : ℕ → ℕ → ℕ → Message → Bool
+unfoldable pub okMessage : ℕ → ℕ → OrderNo → Message → Bool
 okMessage cards blocks last m = each (
     -- "a .. card, block .. out of range"
     homeOrCard cards (m .sender) ∷
     ltb (m .receiver) cards ∷
     ltb (m .block) blocks ∷
     -- "a message's number of 0"
-    not (eqb (m .number .0) 0) ∷
+    not (sameNumber (m .number) noNumber) ∷
     -- "an order number above the last given"
-    leb (m .number .0) last ∷ [])
+    upToNumber (m .number) last ∷ [])
 
 -- an unused place of the line or the pool is not in their lists, so it cannot be ill formed here
 unfoldable pub wellFormed : Chassis → Bool
@@ -102,6 +108,6 @@ wellFormed c = each (
     leb (length (c .line)) room ∷
     leb (length (c .pool)) room ∷
     allOf (c .line) (okRequest (c .cards) (c .blocks)) ∷
-    allOf (c .pool) (okMessage (c .cards) (c .blocks) (c .last .0)) ∷
+    allOf (c .pool) (okMessage (c .cards) (c .blocks) (c .last)) ∷
     -- "or an unused place not as Start makes it"
-    all mostBlocks (λ b. cond (ltb b (c .blocks)) (okBlock (c .cards) (c .last .0) (c .block b)) (unusedBlock (c .block b))) ∷ [])
+    all mostBlocks (λ b. cond (ltb b (c .blocks)) (okBlock (c .cards) (c .last) (c .block b)) (unusedBlock (c .block b))) ∷ [])

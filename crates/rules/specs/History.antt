@@ -7,11 +7,11 @@ use lib.Dec.{eqb}
 use Rattle.rules.specs.Numbers.{granted, putTaken}
 use Rattle.rules.specs.Chassis.{Chassis}
 use Rattle.rules.specs.Events.{step}
-use Rattle.rules.specs.declared.kinds.Request.{Request}
-use Rattle.rules.specs.declared.kinds.Answer.{Answer}
-use Rattle.rules.specs.declared.kinds.Answer.the-variants.{Done, Refused}
-use Rattle.rules.specs.declared.kinds.Event.{Event}
-use Rattle.rules.specs.declared.kinds.Event.the-variants.{
+use Rattle.rules.specs.declared.Request.{Request}
+use Rattle.rules.specs.declared.Answer.{Answer}
+use Rattle.rules.specs.declared.Answer.the-variants.{Done, Refused}
+use Rattle.rules.specs.declared.Event.{Event}
+use Rattle.rules.specs.declared.Event.the-variants.{
   Load,
   Store,
   Drop,
@@ -77,7 +77,7 @@ pub data Fate : Type 0 where
   unsettled settled struck : Fate
 
 -- an accepted store: how many were made before it, who made it, where and of what value; the cards that loaded it; what became of it
-pub record Written : Type 0 where
+pub record Story : Type 0 where
   pub serial : ℕ
   pub card : ℕ
   pub block : ℕ
@@ -86,11 +86,11 @@ pub record Written : Type 0 where
   pub fate : Fate
 
 -- a store just made
-abbrev pub made : ℕ → ℕ → ℕ → ℕ → Written
+abbrev pub made : ℕ → ℕ → ℕ → ℕ → Story
 made n k b v = record { serial = n; card = k; block = b; value = v; loaders = []; fate = unsettled }
 
 -- the store with another fate
-abbrev pub withFate : Fate → Written → Written
+abbrev pub withFate : Fate → Story → Story
 withFate f w = record {
   serial = w .serial;
   card = w .card;
@@ -101,7 +101,7 @@ withFate f w = record {
 }
 
 -- the store with one more loader
-abbrev pub withLoader : ℕ → Written → Written
+abbrev pub withLoader : ℕ → Story → Story
 withLoader k w = record {
   serial = w .serial;
   card = w .card;
@@ -118,11 +118,11 @@ meets f settled = settled
 meets f struck = struck
 
 -- "A store is settled by the first later Order for its block with outcome 1 or 3."
-unfoldable pub settle : ℕ → Written → Written
+unfoldable pub settle : ℕ → Story → Story
 settle b w = cond (eqb (w .block) b) (withFate (meets settled (w .fate)) w) w
 
 -- "An accepted Rejoin strikes that card's unsettled stores."
-unfoldable pub strike : ℕ → Written → Written
+unfoldable pub strike : ℕ → Story → Story
 strike k w = cond (eqb (w .card) k) (withFate (meets struck (w .fate)) w) w
 
 -- the store was struck
@@ -132,24 +132,24 @@ isStruck settled = false
 isStruck struck = true
 
 -- a store to b that has not been struck
-unfoldable pub counts : ℕ → Written → Bool
+unfoldable pub counts : ℕ → Story → Bool
 counts b w = eqb (w .block) b && not (isStruck (w .fate))
 
 -- the value of the last store to b that has not been struck, or 0; newest first
-unfoldable pub lastStore : ℕ → List Written → ℕ
+unfoldable pub lastStore : ℕ → List Story → ℕ
 lastStore b [] = 0
 lastStore b (w ∷ ws) = cond (counts b w) (w .value) (lastStore b ws)
 
 -- card k loads block b: it is one more loader of that store
-unfoldable pub loadedBy : ℕ → ℕ → List Written → List Written
+unfoldable pub loadedBy : ℕ → ℕ → List Story → List Story
 loadedBy k b [] = []
 loadedBy k b (w ∷ ws) = cond (counts b w) (withLoader k w ∷ ws) (w ∷ loadedBy k b ws)
 
 -- every store of a log, newest first, with what became of it by the log's end
-unfoldable pub written : List Did → List Written
-written [] = []
-written (loaded k b v ∷ log) = loadedBy k b (written log)
-written (stored k b v ∷ log) = made (length (written log)) k b v ∷ written log
-written (settles b ∷ log) = map (settle b) (written log)
-written (rejoined k ∷ log) = map (strike k) (written log)
-written (quiet ∷ log) = written log
+unfoldable pub stories : List Did → List Story
+stories [] = []
+stories (loaded k b v ∷ log) = loadedBy k b (stories log)
+stories (stored k b v ∷ log) = made (length (stories log)) k b v ∷ stories log
+stories (settles b ∷ log) = map (settle b) (stories log)
+stories (rejoined k ∷ log) = map (strike k) (stories log)
+stories (quiet ∷ log) = stories log

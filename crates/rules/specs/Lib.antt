@@ -6,6 +6,7 @@ pub mod Numbers
 pub mod Table
 pub mod Chassis
 pub mod Answers
+pub mod Mask
 pub mod Order
 pub mod Formed
 pub mod Events

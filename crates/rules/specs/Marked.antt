@@ -4,13 +4,13 @@ use mathlib.Core.Bool.{Bool, true, _&&_}
 use mathlib.Core.List.{List, [], _∷_, _++_}
 use lib.ListN.{length, getD, replicate}
 use lib.Dec.{eqb}
-use Rattle.rules.specs.Numbers.{gets, getx, putx, I, S, IM-AD, IM-D}
-use Rattle.rules.specs.Chassis.{Chassis, stateOf, unusedRequest}
+use Rattle.rules.specs.Numbers.{orderNo, sameNumber, retryNo, sameRetry, gets, getx, putx, I, S, IM-AD, IM-D}
+use Rattle.rules.specs.Chassis.{Chassis, stateOf, messageOf, unusedRequest}
 use Rattle.rules.specs.Answers.{refusalOf, valueOf}
-use Rattle.rules.specs.Events.{step, start, messageAt, live}
-use Rattle.rules.specs.declared.kinds.Request.{Request}
-use Rattle.rules.specs.declared.kinds.Event.{Event}
-use Rattle.rules.specs.declared.kinds.Event.the-variants.{
+use Rattle.rules.specs.Events.{step, start, live}
+use Rattle.rules.specs.declared.Request.{Request}
+use Rattle.rules.specs.declared.Event.{Event}
+use Rattle.rules.specs.declared.Event.the-variants.{
   Load,
   Store,
   Ask,
@@ -49,15 +49,15 @@ abbrev pub headIsFrom : ℕ → Line
 headIsFrom k = shows (λ c. eqb (head c .card) k)
 
 abbrev pub headHas : ℕ → ℕ → Line
-headHas retry mask = shows (λ c. eqb (head c .retry .0) retry && eqb (head c .mask) mask)
+headHas retry mask = shows (λ c. sameRetry (head c .retry) (retryNo retry) && eqb (head c .mask) mask)
 
 -- n is the last number given, and that of the message at the pool's tail
 abbrev pub lastNumberIs : ℕ → Line
-lastNumberIs n = shows (λ c. eqb (c .last .0) n && eqb (messageAt c (length (c .pool) - 1) .number .0) n)
+lastNumberIs n = shows (λ c. sameNumber (c .last) (orderNo n) && sameNumber (messageOf c (length (c .pool) - 1) .number) (orderNo n))
 
 -- the message at position i is one that its receiver awaits
 abbrev pub isLive : ℕ → Line
-isLive i = shows (λ c. live (c .block 0) (messageAt c i))
+isLive i = shows (λ c. live (c .block 0) (messageOf c i))
 
 -- every line comes out so, from c
 unfoldable pub plays : Chassis → List Line → Bool

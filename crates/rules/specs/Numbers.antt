@@ -1,5 +1,9 @@
 -- The paper's numbers, by name. The refusals are the cases of `Refusal`, whose numbers are in Answers.
-use Prim.Native.Nat.{ℕ, _-_, _^_}
+use Prim.Native.Nat.{ℕ, suc, _-_, _^_}
+use mathlib.Core.Bool.{Bool}
+use lib.Dec.{eqb, leb}
+use Rattle.rules.specs.declared.OrderNo.{OrderNo}
+use Rattle.rules.specs.declared.RetryNo.{RetryNo}
 
 -- "1 to 8 cards (0 up), 1 to 32 blocks (0 up)"
 abbrev pub mostCards : ℕ
@@ -7,6 +11,10 @@ mostCards = 8
 
 abbrev pub mostBlocks : ℕ
 mostBlocks = 32
+
+-- "Bit k of a mask is card k": how many bits a mask has
+abbrev pub maskBits : ℕ
+maskBits = 8
 
 -- "one home, written as 255 where a card number would stand"
 abbrev pub home : ℕ
@@ -16,13 +24,50 @@ home = 255
 abbrev pub room : ℕ
 room = 64
 
--- "the last order number given: 0 at the start, 64 bits wide": the last that can be given
-abbrev pub lastNumber : ℕ
-lastNumber = 2 ^ 64 - 1
+-- "An order number and a retry number are kinds of their own and may not be mixed."
+
+abbrev pub orderNo : ℕ → OrderNo
+orderNo n = record { 0 = n }
+
+abbrev pub retryNo : ℕ → RetryNo
+retryNo n = record { 0 = n }
+
+-- "the last order number given: 0 at the start"; it is also what a cell awaits that awaits none
+abbrev pub noNumber : OrderNo
+noNumber = orderNo 0
+
+-- "64 bits wide": the last that can be given
+abbrev pub lastNumber : OrderNo
+lastNumber = orderNo (2 ^ 64 - 1)
+
+-- "the next order number"
+abbrev pub nextNumber : OrderNo → OrderNo
+nextNumber n = orderNo (suc (n .0))
+
+-- two order numbers are one; the first is not above the second
+abbrev pub sameNumber : OrderNo → OrderNo → Bool
+sameNumber m n = eqb (m .0) (n .0)
+
+abbrev pub upToNumber : OrderNo → OrderNo → Bool
+upToNumber m n = leb (m .0) (n .0)
 
 -- "retry (0 to 3)"
-abbrev pub lastRetry : ℕ
-lastRetry = 3
+abbrev pub firstRetry : RetryNo
+firstRetry = retryNo 0
+
+abbrev pub lastRetry : RetryNo
+lastRetry = retryNo 3
+
+-- "retry one higher"
+abbrev pub nextRetry : RetryNo → RetryNo
+nextRetry n = retryNo (suc (n .0))
+
+-- two retry numbers are one; the first is not above the second
+abbrev pub sameRetry : RetryNo → RetryNo → Bool
+sameRetry m n = eqb (m .0) (n .0)
+
+abbrev pub upToRetry : RetryNo → RetryNo → Bool
+upToRetry m n = leb (m .0) (n .0)
 
 -- "kind 1 GETS, 2 GETX, 3 PUTX"
 abbrev pub gets : ℕ

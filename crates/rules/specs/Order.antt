@@ -1,17 +1,21 @@
 -- Order: "takes the head, from card q, and the next order number".
--- What comes of the head is one of six turns. Home's part and the cards' parts of a turn are apart.
-use Prim.Native.Nat.{ℕ, suc}
+use Prim.Native.Nat.{ℕ}
 use mathlib.Core.Bool.{Bool, true, cond, not, _&&_, _||_}
 use mathlib.Core.List.{List, [], _∷_, _++_}
 use lib.ListN.{length}
 use lib.Dec.{eqb, leb}
-use Rattle.rules.specs.Tests.{_⇒_, any, all, some}
+use Rattle.rules.specs.Tests.{any, some}
 use Rattle.rules.specs.Masks.{has, only, every, union}
+use Rattle.rules.specs.Mask.{suffices}
 use Rattle.rules.specs.Numbers.{
   home,
   room,
   lastNumber,
+  nextNumber,
+  upToNumber,
   lastRetry,
+  nextRetry,
+  upToRetry,
   gets,
   putx,
   granted,
@@ -29,13 +33,25 @@ use Rattle.rules.specs.Table.{
   putStands,
   grantedTo,
 }
-use Rattle.rules.specs.Chassis.{Block, Chassis, idle, goes, goesFor, changed}
+use Rattle.rules.specs.Chassis.{
+  Block,
+  Chassis,
+  aRequest,
+  aMessage,
+  aBlock,
+  idle,
+  goes,
+  goesFor,
+  changed,
+}
 use Rattle.rules.specs.Answers.{Result, result, Reason, _if_}
-use Rattle.rules.specs.declared.kinds.Cell.{Cell}
-use Rattle.rules.specs.declared.kinds.Request.{Request}
-use Rattle.rules.specs.declared.kinds.Message.{Message}
-use Rattle.rules.specs.declared.kinds.Turn.{Turn}
-use Rattle.rules.specs.declared.kinds.Turn.the-variants.{
+use Rattle.rules.specs.declared.OrderNo.{OrderNo}
+use Rattle.rules.specs.declared.RetryNo.{RetryNo}
+use Rattle.rules.specs.declared.Cell.{Cell}
+use Rattle.rules.specs.declared.Request.{Request}
+use Rattle.rules.specs.declared.Message.{Message}
+use Rattle.rules.specs.declared.Turn.{Turn}
+use Rattle.rules.specs.declared.Turn.the-variants.{
   GetsGranted,
   GetxGranted,
   GetsMissed,
@@ -43,8 +59,8 @@ use Rattle.rules.specs.declared.kinds.Turn.the-variants.{
   PutTaken,
   PutLapsed,
 }
-use Rattle.rules.specs.declared.kinds.Answer.the-variants.{Done}
-use Rattle.rules.specs.declared.kinds.Refusal.the-variants.{
+use Rattle.rules.specs.declared.Answer.the-variants.{Done}
+use Rattle.rules.specs.declared.Refusal.the-variants.{
   LineEmpty,
   BlockHeld,
   PoolFull,
@@ -84,19 +100,13 @@ noRoomFor c r = not (eqb (r .kind) putx) && leb room (length (c .pool))
 unfoldable pub orderReasons : Chassis → List Request → List Reason
 orderReasons c [] = (LineEmpty if true) ∷ []
 orderReasons c (r ∷ rest) =
-    (NumbersSpent if leb lastNumber (c .last .0)) ∷
+    (NumbersSpent if upToNumber lastNumber (c .last)) ∷
     (BlockHeld if held (c .cards) (c .block (r .block))) ∷
     (Impossible if impossible (c .block (r .block)) r) ∷
     (PoolFull if noRoomFor c r) ∷ []
 
--- The turn
+-- The turn: what comes of the head request
 
--- "GETS suffices when the owner is home or in the mask. GETX needs also every sharer other than q in the mask."
-unfoldable pub suffices : ℕ → Block → Request → Bool
-suffices cards B r = (eqb (B .owner) home || has (r .mask) (B .owner))
-    && (eqb (r .kind) gets || all cards (λ k. has (B .sharers) k ⇒ eqb k (r .card) || has (r .mask) k))
-
--- what comes of the head request
 unfoldable pub turn : ℕ → Block → Request → Turn
 turn cards B r = cond (eqb (r .kind) putx)
     (cond (putStands (B .cell (r .card) .state)) PutTaken PutLapsed)
@@ -104,150 +114,179 @@ turn cards B r = cond (eqb (r .kind) putx)
     (cond (eqb (r .kind) gets) GetsGranted GetxGranted)
     (cond (eqb (r .kind) gets) GetsMissed GetxMissed))
 
--- the outcome that Order answers
-unfoldable pub outcomeNo : Turn → ℕ
-outcomeNo GetsGranted = granted
-outcomeNo GetxGranted = granted
-outcomeNo GetsMissed = tooSmall
-outcomeNo GetxMissed = tooSmall
-outcomeNo PutTaken = putTaken
-outcomeNo PutLapsed = putLapsed
+-- What a turn does
 
--- Home's part, where q's request is at the head
+-- its outcome; home's part, by the block and the asker: memory, owner, sharers; the cards' parts, each by its own cell: the asker's, that of
+-- the owner, if it is another card, and a reader's, of any other card in the mask; the message; the line
+pub record Upshot : Type 0 where
+  pub outcome : ℕ
+  pub memory : Block → ℕ → ℕ
+  pub owner : Block → ℕ → ℕ
+  pub sharers : Block → ℕ → ℕ
+  pub askerSees : OrderNo → Cell → Cell
+  pub ownerSees : Cell → Cell
+  pub readerSees : Cell → Cell
+  pub sent : Block → Request → OrderNo → List Message
+  pub again : ℕ → Block → Request → List Request
+
+abbrev pub upshot : ℕ → (Block → ℕ → ℕ) → (Block → ℕ → ℕ) → (Block → ℕ → ℕ) → (OrderNo → Cell → Cell) → (Cell → Cell) → (Cell → Cell)
+    → (Block → Request → OrderNo → List Message) → (ℕ → Block → Request → List Request) → Upshot
+upshot outcome memory owner sharers asker owns reads sent again = record {
+  outcome = outcome;
+  memory = memory;
+  owner = owner;
+  sharers = sharers;
+  askerSees = asker;
+  ownerSees = owns;
+  readerSees = reads;
+  sent = sent;
+  again = again;
+}
+
+-- all stays, but for what is said behind it
+abbrev pub staysAt : ℕ → Upshot
+staysAt outcome = upshot outcome (λ B q. B .memory) (λ B q. B .owner) (λ B q. B .sharers) (λ n x. x) (λ x. x) (λ x. x) (λ B r n. []) (λ cards B r. [])
+
+infixl 5 _but_
+abbrev pub _but_ : Upshot → (Upshot → Upshot) → Upshot
+u but f = f u
+
+abbrev pub memoryTakes : (Block → ℕ → ℕ) → Upshot → Upshot
+memoryTakes f u = upshot (u .outcome) f (u .owner) (u .sharers) (u .askerSees) (u .ownerSees) (u .readerSees) (u .sent) (u .again)
+
+abbrev pub ownerBecomes : (Block → ℕ → ℕ) → Upshot → Upshot
+ownerBecomes f u = upshot (u .outcome) (u .memory) f (u .sharers) (u .askerSees) (u .ownerSees) (u .readerSees) (u .sent) (u .again)
+
+abbrev pub sharersBecome : (Block → ℕ → ℕ) → Upshot → Upshot
+sharersBecome f u = upshot (u .outcome) (u .memory) (u .owner) f (u .askerSees) (u .ownerSees) (u .readerSees) (u .sent) (u .again)
+
+abbrev pub askerGoes : (OrderNo → Cell → Cell) → Upshot → Upshot
+askerGoes f u = upshot (u .outcome) (u .memory) (u .owner) (u .sharers) f (u .ownerSees) (u .readerSees) (u .sent) (u .again)
+
+-- an owning card "moves by the table"
+abbrev pub ownerMoves : (ℕ → ℕ) → Upshot → Upshot
+ownerMoves to u = upshot (u .outcome) (u .memory) (u .owner) (u .sharers) (u .askerSees) (λ x. goes (to (x .state)) x) (u .readerSees) (u .sent) (u .again)
+
+-- "Cards in the mask, other than q, in states 1 and 5 move by the table"
+abbrev pub readersMove : (ℕ → ℕ) → Upshot → Upshot
+readersMove to u = upshot (u .outcome) (u .memory) (u .owner) (u .sharers) (u .askerSees) (u .ownerSees)
+    (λ x. cond (isReader (x .state)) (goes (to (x .state)) x) x) (u .sent) (u .again)
+
+abbrev pub sends : (Block → Request → OrderNo → Message) → Upshot → Upshot
+sends f u = upshot (u .outcome) (u .memory) (u .owner) (u .sharers) (u .askerSees) (u .ownerSees) (u .readerSees) (λ B r n. f B r n ∷ []) (u .again)
+
+abbrev pub goesBack : (ℕ → Block → Request → Request) → Upshot → Upshot
+goesBack f u = upshot (u .outcome) (u .memory) (u .owner) (u .sharers) (u .askerSees) (u .ownerSees) (u .readerSees) (u .sent) (λ cards B r. f cards B r ∷ [])
+
+-- Grants
 
 -- what an owning card gives away, or else memory's value
 unfoldable pub given : Block → ℕ
 given B = cond (eqb (B .owner) home) (B .memory) (B .cell (B .owner) .value)
 
--- a grant: an owning card's "value goes to memory"; a put: "memory takes the value"
-unfoldable pub memoryAfter : Turn → Block → ℕ → ℕ
-memoryAfter GetsGranted B q = given B
-memoryAfter GetxGranted B q = given B
-memoryAfter GetsMissed B q = B .memory
-memoryAfter GetxMissed B q = B .memory
-memoryAfter PutTaken B q = B .cell q .value
-memoryAfter PutLapsed B q = B .memory
+-- "Every grant puts one message at the pool's tail: sender (old owner), receiver q, block, memory's value, order number."
+unfoldable pub dataFor : Block → Request → OrderNo → Message
+dataFor B r n = aMessage (B .owner) (r .card) (r .block) (given B) n
 
--- GETS: "the owner becomes home"; GETX: "The owner becomes q"; a put: "the owner becomes home"
-unfoldable pub ownerAfter : Turn → Block → ℕ → ℕ
-ownerAfter GetsGranted B q = home
-ownerAfter GetxGranted B q = q
-ownerAfter GetsMissed B q = B .owner
-ownerAfter GetxMissed B q = B .owner
-ownerAfter PutTaken B q = home
-ownerAfter PutLapsed B q = B .owner
+-- "q goes to 6", "from 4 to 7 or from 5 to 8"; "q awaits that number"
+abbrev pub grantedCell : OrderNo → Cell → Cell
+grantedCell n x = goesFor n (grantedTo (x .state)) x
 
--- GETS: "the sharers become that card and q", or "With home as owner, q joins the sharers"; GETX and a put: "the sharers none"
-unfoldable pub sharersAfter : Turn → Block → ℕ → ℕ
-sharersAfter GetsGranted B q = union (cond (eqb (B .owner) home) (B .sharers) (only (B .owner))) (only q)
-sharersAfter GetxGranted B q = 0
-sharersAfter GetsMissed B q = B .sharers
-sharersAfter GetxMissed B q = B .sharers
-sharersAfter PutTaken B q = 0
-sharersAfter PutLapsed B q = B .sharers
+-- "Granted GETS (outcome 1): an owning card moves by the table, its value goes to memory, the sharers become that card and q, the owner
+-- becomes home. With home as owner, q joins the sharers. q goes to 6."
+abbrev pub grantedGets : Upshot
+grantedGets = staysAt granted
+    but ownerMoves seesGets
+    but memoryTakes (λ B q. given B)
+    but sharersBecome (λ B q. union (cond (eqb (B .owner) home) (B .sharers) (only (B .owner))) (only q))
+    but ownerBecomes (λ B q. home)
+    but askerGoes grantedCell
+    but sends dataFor
 
--- The cards' parts, under order number n
+-- "Granted GETX (outcome 1): an owning card moves by the table, its value goes to memory. Cards in the mask, other than q, in states 1 and 5
+-- move by the table. The owner becomes q, the sharers none. q goes from 4 to 7 or from 5 to 8."
+abbrev pub grantedGetx : Upshot
+grantedGetx = staysAt granted
+    but ownerMoves seesGetx
+    but memoryTakes (λ B q. given B)
+    but readersMove seesGetx
+    but ownerBecomes (λ B q. q)
+    but sharersBecome (λ B q. 0)
+    but askerGoes grantedCell
+    but sends dataFor
 
--- the asker: "q goes to 6", "from 4 to 7 or from 5 to 8", and "awaits that number"; after a put "q goes to 0"
-unfoldable pub askerSees : Turn → ℕ → Cell → Cell
-askerSees GetsGranted n x = goesFor n (grantedTo (x .state)) x
-askerSees GetxGranted n x = goesFor n (grantedTo (x .state)) x
-askerSees GetsMissed n x = x
-askerSees GetxMissed n x = x
-askerSees PutTaken n x = idle
-askerSees PutLapsed n x = idle
-
--- the owner, if a card: "an owning card moves by the table"
-unfoldable pub ownerSees : Turn → Cell → Cell
-ownerSees GetsGranted x = goes (seesGets (x .state)) x
-ownerSees GetxGranted x = goes (seesGetx (x .state)) x
-ownerSees GetsMissed x = x
-ownerSees GetxMissed x = x
-ownerSees PutTaken x = x
-ownerSees PutLapsed x = x
-
--- another card in the mask: "Cards in the mask, other than q, in states 1 and 5 move by the table", at GETX, granted or not
-unfoldable pub readerSees : Turn → Cell → Cell
-readerSees GetsGranted x = x
-readerSees GetxGranted x = cond (isReader (x .state)) (goes (seesGetx (x .state)) x) x
-readerSees GetsMissed x = x
-readerSees GetxMissed x = cond (isReader (x .state)) (goes (seesGetx (x .state)) x) x
-readerSees PutTaken x = x
-readerSees PutLapsed x = x
-
--- card k's cell after the turn
-unfoldable pub sees : Turn → Block → Request → ℕ → ℕ → Cell
-sees t B r n k =
-    let x = B .cell k in
-    cond (eqb (r .card) k) (askerSees t n x)
-    (cond (eqb (B .owner) k) (ownerSees t x) (cond (has (r .mask) k) (readerSees t x) x))
-
--- the block after the turn: home's part, and each card's
-unfoldable pub ordered : Turn → Block → Request → ℕ → Block
-ordered t B r n = record {
-  memory = memoryAfter t B (r .card);
-  owner = ownerAfter t B (r .card);
-  sharers = sharersAfter t B (r .card);
-  cell = sees t B r n;
-}
-
--- The message
-
--- "sender (old owner), receiver q, block, memory's value, order number"
-unfoldable pub dataFor : Block → Request → ℕ → Message
-dataFor B r n = record {
-  sender = B .owner;
-  receiver = r .card;
-  block = r .block;
-  value = given B;
-  number = record { 0 = n };
-}
-
--- "Every grant puts one message at the pool's tail"
-unfoldable pub sent : Turn → Block → Request → ℕ → List Message
-sent GetsGranted B r n = dataFor B r n ∷ []
-sent GetxGranted B r n = dataFor B r n ∷ []
-sent GetsMissed B r n = []
-sent GetxMissed B r n = []
-sent PutTaken B r n = []
-sent PutLapsed B r n = []
-
--- The line
+-- Too small a mask
 
 -- "The new mask for retry 1 and 2 is the owner, if a card, and the sharers; for retry 3 it is every card."
-unfoldable pub retryMask : ℕ → Block → ℕ → ℕ
-retryMask cards B retry = cond (leb lastRetry retry) (every cards)
+unfoldable pub retryMask : ℕ → Block → RetryNo → ℕ
+retryMask cards B retry = cond (upToRetry lastRetry retry) (every cards)
     (cond (eqb (B .owner) home) (B .sharers) (union (only (B .owner)) (B .sharers)))
 
 -- the request, "retry one higher"
 unfoldable pub retried : ℕ → Block → Request → Request
-retried cards B r = record {
-  card = r .card;
-  block = r .block;
-  kind = r .kind;
-  mask = retryMask cards B (suc (r .retry .0));
-  retry = record { 0 = suc (r .retry .0) };
-}
+retried cards B r =
+    let retry = nextRetry (r .retry) in
+    aRequest (r .card) (r .block) (r .kind) (retryMask cards B retry) retry
 
--- "Too small a mask (outcome 2): the request goes to the line's tail"
-unfoldable pub again : Turn → ℕ → Block → Request → List Request
-again GetsGranted cards B r = []
-again GetxGranted cards B r = []
-again GetsMissed cards B r = retried cards B r ∷ []
-again GetxMissed cards B r = retried cards B r ∷ []
-again PutTaken cards B r = []
-again PutLapsed cards B r = []
+-- "Too small a mask (outcome 2): the request goes to the line's tail, retry one higher."
+abbrev pub missedGets : Upshot
+missedGets = staysAt tooSmall
+    but goesBack retried
+
+-- "For GETX the cards in the old mask, other than q, in states 1 and 5 still move by the table; nothing else does."
+abbrev pub missedGetx : Upshot
+missedGetx = staysAt tooSmall
+    but goesBack retried
+    but readersMove seesGetx
+
+-- Puts: "PUTX ignores the mask."
+
+-- "From 9 (outcome 3): memory takes the value, the owner becomes home, the sharers none, q goes to 0."
+abbrev pub takenPut : Upshot
+takenPut = staysAt putTaken
+    but memoryTakes (λ B q. B .cell q .value)
+    but ownerBecomes (λ B q. home)
+    but sharersBecome (λ B q. 0)
+    but askerGoes (λ n x. idle)
+
+-- "From 10 (outcome 4): q goes to 0, and home changes nothing."
+abbrev pub lapsedPut : Upshot
+lapsedPut = staysAt putLapsed
+    but askerGoes (λ n x. idle)
 
 -- The whole
+
+unfoldable pub upshotOf : Turn → Upshot
+upshotOf GetsGranted = grantedGets
+upshotOf GetxGranted = grantedGetx
+upshotOf GetsMissed = missedGets
+upshotOf GetxMissed = missedGetx
+upshotOf PutTaken = takenPut
+upshotOf PutLapsed = lapsedPut
+
+-- card k's cell after the turn: "seen at once by home, the asker and the cards in its mask"
+unfoldable pub sees : Turn → Block → Request → OrderNo → ℕ → Cell
+sees t B r n k =
+    let u = upshotOf t in
+    let x = B .cell k in
+    cond (eqb (r .card) k) (u .askerSees n x)
+    (cond (eqb (B .owner) k) (u .ownerSees x) (cond (has (r .mask) k) (u .readerSees x) x))
+
+-- the block after the turn: home's part, and each card's
+unfoldable pub ordered : Turn → Block → Request → OrderNo → Block
+ordered t B r n =
+    let u = upshotOf t in
+    aBlock (u .memory B (r .card)) (u .owner B (r .card)) (u .sharers B (r .card)) (sees t B r n)
 
 -- the head r is taken, with what its turn does to block, line and pool, under the next order number
 unfoldable pub orderHead : Chassis → Request → List Request → Result
 orderHead c r rest =
     let B = c .block (r .block) in
-    let n = suc (c .last .0) in
+    let n = nextNumber (c .last) in
     let t = turn (c .cards) B r in
-    result (Done (outcomeNo t))
-    (changed c (r .block) (ordered t B r n) (rest ++ again t (c .cards) B r) (c .pool ++ sent t B r n) n)
+    let u = upshotOf t in
+    result (Done (u .outcome))
+    (changed c (r .block) (ordered t B r n) (rest ++ u .again (c .cards) B r) (c .pool ++ u .sent B r n) n)
 
 -- an empty line is refused before this
 unfoldable pub order : Chassis → List Request → Result

@@ -1,4 +1,4 @@
--- "A card's cell": the eleven rows of the card state table, and the states that the rules name.
+-- "A card's cell": the rows of the card state table, and the states that the rules name.
 use Prim.Native.Nat.{ℕ}
 use mathlib.Core.Bool.{Bool, true, false, cond}
 use mathlib.Core.List.{List, [], _∷_}
@@ -51,8 +51,8 @@ abbrev · : ℕ
 · = none
 
 -- Load, Store; where GETS, GETX, PUTX lead; sees GETS as owner, sees another's GETX
-unfoldable pub rows : List Row
-rows =
+unfoldable pub cardTable : List Row
+cardTable =
     row – – 3 4 · · · ∷  -- 0 I
     row ✓ – · 5 · · 0 ∷  -- 1 S
     row ✓ ✓ · · 9 1 0 ∷  -- 2 M
@@ -68,8 +68,8 @@ rows =
 
 -- the row of a state; what is no state has an empty row
 unfoldable pub rowOf : ℕ → Row
-unfolding rows
-rowOf s = getD rows s (row – – · · · · ·)
+unfolding cardTable
+rowOf s = getD cardTable s (row – – · · · · ·)
 
 -- The columns
 
@@ -149,15 +149,15 @@ unfolding oneOf
 putStands s = oneOf (MI-A ∷ []) s
 
 -- a granted GETS: "q goes to 6"; a granted GETX: "q goes from 4 to 7 or from 5 to 8"
-abbrev pub grants : List ℕ
-grants = none ∷ none ∷ none ∷ IS-D ∷ IM-D ∷ SM-D ∷ []
+abbrev pub grantedStates : List ℕ
+grantedStates = none ∷ none ∷ none ∷ IS-D ∷ IM-D ∷ SM-D ∷ []
 
 unfoldable pub grantedTo : ℕ → ℕ
-grantedTo s = getD grants s none
+grantedTo s = getD grantedStates s none
 
 -- data comes to 6, 7 or 8: it "goes to 1, 2 or 2"
-abbrev pub fills : List ℕ
-fills = none ∷ none ∷ none ∷ none ∷ none ∷ none ∷ S ∷ M ∷ M ∷ []
+abbrev pub filledStates : List ℕ
+filledStates = none ∷ none ∷ none ∷ none ∷ none ∷ none ∷ S ∷ M ∷ M ∷ []
 
 unfoldable pub filledTo : ℕ → ℕ
-filledTo s = getD fills s none
+filledTo s = getD filledStates s none

@@ -2,10 +2,10 @@
 use borrow.Author.Needs.{needs}
 use native.Mathlib.Omega.{arith}
 use mathlib.Core.Path.{sym, _∙_, ap}
-use Rattle.rules.specs.Masks.{every}
+use borrow.Author.Tests.{not-true, not-false}
 use Rattle.rules.specs.Chassis.{goes}
-use Rattle.engine.specs.Parts.{putCell}
-use Rattle.engine.proofs.Does.{sizes}
+use Rattle.words.specs.Inner.Parts.{putCell}
+use Rattle.words.proofs.Does.{sizes}
 use Rattle.engine.proofs.Rights.{known}
 use Rattle.engine.proofs.Asked.{kind-test, cell-waiting, bad-kind, stranger, not-allowed, line-full, ask-done}
 use Rattle.engine.proofs.ask.ask_from.Statement.{statement}
@@ -17,8 +17,8 @@ returns c = bad-kind _ (c .before .pre .0) _ _ _ _ _ (c .before .pre .1) (sym (k
 cards-requires : tie.Need-cards-requires
 cards-requires c κs = search needs
 
-every-requires : tie.Need-every-requires
-every-requires c κs = omega (arith, sizes _ (c .before .before .before .pre .0))
+inside-requires : tie.Need-inside-requires
+inside-requires c κs = omega (arith, sizes _ (c .before .before .before .pre .0))
 
 returns-2 : tie.Need-returns-2
 returns-2 c =
@@ -26,8 +26,7 @@ returns-2 c =
     let c₄ = c₂ .before .before in
     let c₅ = c₄ .before in
     let p = c₅ .pre in
-    let e = c .before .every .ensures ∙ ap every (c₂ .cards .ensures) in
-    stranger _ (p .0) _ _ _ _ _ (p .1) (sym (kind-test (c₅ .args .kind)) ∙ c₄ .if1 .left) (let h = c .if2 .taken in omega arith)
+    stranger _ (p .0) _ _ _ _ _ (p .1) (sym (kind-test (c₅ .args .kind)) ∙ c₄ .if1 .left) (rw (c₂ .cards .ensures) at (sym (c .before .inside .ensures) ∙ not-true _ (c .if2 .taken)))
 
 asked-requires : tie.Need-asked-requires
 asked-requires c κs = search needs
@@ -41,7 +40,7 @@ returns-3 c =
     let c₇ = c₆ .before in
     let p = c₇ .pre in
     not-allowed _ (p .0) _ _ _ _ _ (p .1) (sym (kind-test (c₇ .args .kind)) ∙ c₆ .if1 .left)
-    (let e = c₃ .every .ensures ∙ ap every (c₄ .cards .ensures) in let h = c₂ .if2 .left in omega arith)
+    (rw (c₄ .cards .ensures) at (sym (c₃ .inside .ensures) ∙ not-false _ (c₂ .if2 .left)))
     (sym (c .before .asked .ensures) ∙ c .if3 .taken)
 
 waiting-requires : tie.Need-waiting-requires
@@ -58,7 +57,7 @@ returns-4 c =
     let c₁₀ = c₉ .before in
     let p = c₁₀ .pre in
     line-full _ (p .0) _ _ _ _ _ (p .1) (sym (kind-test (c₁₀ .args .kind)) ∙ c₉ .if1 .left)
-    (let e = c₆ .every .ensures ∙ ap every (c₇ .cards .ensures) in let h = c₅ .if2 .left in omega arith)
+    (rw (c₇ .cards .ensures) at (sym (c₆ .inside .ensures) ∙ not-false _ (c₅ .if2 .left)))
     (λ e. c₃ .if3 .left (c₄ .asked .ensures ∙ e)) (omega arith)
 
 goes-for-requires : tie.Need-goes-for-requires
@@ -90,7 +89,7 @@ returns-5 c =
     let p = c₁₅ .pre in
     let a = c₁₅ .args in
     ask-done _ (p .0) _ _ _ _ _ (p .1) (sym (kind-test (c₁₅ .args .kind)) ∙ c₁₄ .if1 .left)
-    (let e = c₁₁ .every .ensures ∙ ap every (c₁₂ .cards .ensures) in let h = c₁₀ .if2 .left in omega arith)
+    (rw (c₁₂ .cards .ensures) at (sym (c₁₁ .inside .ensures) ∙ not-false _ (c₁₀ .if2 .left)))
     (λ e. c₈ .if3 .left (c₉ .asked .ensures ∙ e)) (let e = c₆ .waiting .ensures in let h = c₅ .if4 .left in omega arith) _ _
     (c₂ .put-cell .ensures ∙ ap (putCell (a .s .now) (a .card) (a .block))
     (c₃ .goes-for .ensures ∙ ap (λ s. goes s (a .cell)) (c₉ .asked .ensures))) (c .push-request .ensures)
@@ -101,7 +100,7 @@ ask-from-spec =
     (tie.spec
     returns
     cards-requires
-    every-requires
+    inside-requires
     returns-2
     asked-requires
     returns-3

@@ -30,12 +30,14 @@ returns c =
     (sym (c₃ .cell .given .1) ∙ c₅ .find .ensures)
     (sym (c .before .drops .ensures) ∙ not-true _ (c .if1 .taken))
 
+idle-requires : tie.Need-idle-requires
+idle-requires c κs = search needs
+
 put-cell-requires : tie.Need-put-cell-requires
 put-cell-requires c κs =
-    let c₄ = c .before .before .before .before in
-    let c₆ = c₄ .before .before in
-    let c₈ = c₆ .before .before in
-    let t = known _ (c₈ .pre) _ _ _ (sym (c₄ .cell .given .1) ∙ c₆ .find .ensures) in
+    let c₅ = c .before .before .before .before .before in
+    let c₇ = c₅ .before .before in
+    let t = known _ (c₇ .before .before .pre) _ _ _ (sym (c₅ .cell .given .1) ∙ c₇ .find .ensures) in
     (t .card<, t .block<)
 
 returns-2 : tie.Need-returns-2
@@ -47,14 +49,13 @@ returns-2 c =
 
 returns-3 : tie.Need-returns-3
 returns-3 c =
-    let c₂ = c .before .before in
-    let c₃ = c₂ .before in
-    let c₅ = c₃ .before .before in
-    let c₇ = c₅ .before .before in
-    let c₉ = c₇ .before .before in
-    drop-done _ (c₉ .pre) _ _ _
-    (sym (c₅ .cell .given .1) ∙ c₇ .find .ensures)
-    (sym (c₃ .drops .ensures) ∙ not-false _ (c₂ .if1 .left)) _ (c .put-cell .ensures)
+    let c₃ = c .before .before .before in
+    let c₄ = c₃ .before in
+    let c₆ = c₄ .before .before in
+    let c₈ = c₆ .before .before in
+    drop-done _ (c₈ .before .before .pre) _ _ _
+    (sym (c₆ .cell .given .1) ∙ c₈ .find .ensures)
+    (sym (c₄ .drops .ensures) ∙ not-false _ (c₃ .if1 .left)) _ (rw (c .before .idle .ensures) at (c .put-cell .ensures))
 
 pub drop-spec : {M : Type 1} → statement M
 drop-spec =
@@ -65,6 +66,7 @@ drop-spec =
     enum-known-cell
     drops-requires
     returns
+    idle-requires
     put-cell-requires
     returns-2
     returns-3)

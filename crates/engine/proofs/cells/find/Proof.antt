@@ -4,10 +4,10 @@ use borrow.Author.Tests.{le-leb, lt-leb}
 use native.Mathlib.Omega.{arith}
 use Prim.Native.Nat.{_≤_, _<_}
 use mathlib.Core.Path.{ap}
-use Rattle.engine.specs.declared.cells.Found.the-variants.{There}
-use Rattle.engine.specs.Words.{cardsOf, blocksOf}
-use Rattle.engine.specs.Found.{found}
-use Rattle.engine.proofs.Does.{sizes}
+use Rattle.engine.specs.declared.cells.Sought.the-variants.{There}
+use Rattle.words.specs.Words.{cardsOf, blocksOf}
+use Rattle.engine.specs.Inner.Sought.{sought}
+use Rattle.words.proofs.Does.{sizes}
 use Rattle.engine.proofs.cells.find.Statement.{statement}
 use Rattle.engine.proofs.cells.find.Tie as tie
 
@@ -15,7 +15,7 @@ cards-requires : tie.Need-cards-requires
 cards-requires c κs = search needs
 
 returns : tie.Need-returns
-unfolding found
+unfolding sought
 returns c =
     let a = c .before .before .args in
     let h : cardsOf (a .s .now) ≤ a .card = omega arith in
@@ -25,7 +25,7 @@ blocks-requires : tie.Need-blocks-requires
 blocks-requires c κs = search needs
 
 returns-2 : tie.Need-returns-2
-unfolding found
+unfolding sought
 returns-2 c =
     let a = c .before .before .before .before .args in
     let h : a .card < cardsOf (a .s .now) = omega arith in
@@ -36,7 +36,7 @@ cell-at-requires : tie.Need-cell-at-requires
 cell-at-requires c κs = let s = sizes _ (c .before .before .before .before .pre) in (omega arith, omega arith)
 
 returns-3 : tie.Need-returns-3
-unfolding found
+unfolding sought
 returns-3 c =
     let a = c .before .before .before .before .before .args in
     let h : a .card < cardsOf (a .s .now) = omega arith in

@@ -1,6 +1,6 @@
 -- `events::act` does what the function of the event's own kind does.
 use borrow.Author.Needs.{needs}
-use Rattle.engine.proofs.Does.{does-for}
+use Rattle.words.proofs.Does.{does-for}
 use Rattle.engine.proofs.events.act.Statement.{statement}
 use Rattle.engine.proofs.events.act.Tie as tie
 

@@ -1,7 +1,7 @@
 -- `events::step` does what `events::act` does on formed words, and answers 15 to others.
 use borrow.Author.Needs.{needs}
 use mathlib.Core.Path.{sym, _∙_}
-use Rattle.engine.proofs.Does.{answers-formed, answers-ill-formed}
+use Rattle.engine.proofs.Promised.{answers-formed, answers-ill-formed}
 use Rattle.engine.proofs.events.step.Statement.{statement}
 use Rattle.engine.proofs.events.step.Tie as tie
 

@@ -1,15 +1,15 @@
 -- `formed::block_formed`: the words of home's part that is read and its test, or those of a fresh block; and the cells.
 use borrow.Author.Tests.{lt-ltb, le-ltb}
 use borrow.Author.Needs.{needs}
-use Rattle.engine.specs.Tested.{homeTest, blockTest}
+use Rattle.words.specs.Inner.Tested.{homeTest, blockTest}
 use Rattle.engine.proofs.formed.block_formed.Statement.{statement}
 use Rattle.engine.proofs.formed.block_formed.Tie as tie
 
-mul-p : tie.Need-mul-p
-mul-p c = search needs
+cast-if1 : tie.Need-cast-if1
+cast-if1 c = search needs
 
-add-p : tie.Need-add-p
-add-p c = search needs
+home-place-requires : tie.Need-home-place-requires
+home-place-requires c κs = search needs
 
 cards-requires : tie.Need-cards-requires
 cards-requires c κs = search needs
@@ -20,17 +20,20 @@ blocks-requires c κs = search needs
 home-at-requires : tie.Need-home-at-requires
 home-at-requires c κs = search needs
 
-cast-three-at : tie.Need-cast-three-at
-cast-three-at c = search needs
+cast-t12 : tie.Need-cast-t12
+cast-t12 c = search needs
 
-cast-three-at-2 : tie.Need-cast-three-at-2
-cast-three-at-2 c = search needs
+cast-t13 : tie.Need-cast-t13
+cast-t13 c = search needs
 
-cast-three-at-3 : tie.Need-cast-three-at-3
-cast-three-at-3 c = search needs
+cast-t14 : tie.Need-cast-t14
+cast-t14 c = search needs
 
-three-at-requires : tie.Need-three-at-requires
-three-at-requires c κs = search needs
+slice-aggregate-row-is : tie.Need-slice-aggregate-row-is
+slice-aggregate-row-is c = search needs
+
+row-is-requires : tie.Need-row-is-requires
+row-is-requires c κs = search needs
 
 ok-home-requires : tie.Need-ok-home-requires
 ok-home-requires c κs = search needs
@@ -42,57 +45,62 @@ returns : tie.Need-returns
 unfolding blockTest homeTest
 returns c =
     let c₂ = c .before .before in
-    let c₆ = c₂ .before .before .before .before in
-    let c₇ = c₆ .before in
+    let c₇ = c₂ .before .before .before .before .before in
     let c₈ = c₇ .before in
     let c₉ = c₈ .before in
+    let c₁₀ = c₉ .before in
     rw (
-      ← c₈ .blocks2 .ensures,
-      lt-ltb _ _ (c₇ .if1 .taken),
-      c₂ .three-at .ensures,
+      ← c₉ .blocks2 .ensures,
+      lt-ltb _ _ (c₈ .if1 .taken),
+      c₂ .row-is .ensures,
       c .before .ok-home .ensures,
       c .cells-formed .ensures,
-      c₉ .cards .ensures,
-      c₆ .home-at .ensures .0,
-      c₆ .home-at .ensures .1,
-      c₆ .home-at .ensures .2,
+      c₁₀ .cards .ensures,
+      c₇ .home-at .ensures .0,
+      c₇ .home-at .ensures .1,
+      c₇ .home-at .ensures .2,
+      c₁₀ .before .home-place .ensures,
     )
 
-cast-three-at-4 : tie.Need-cast-three-at-4
-cast-three-at-4 c = search needs
+slice-aggregate-row-is-2 : tie.Need-slice-aggregate-row-is-2
+slice-aggregate-row-is-2 c = search needs
 
-three-at-requires-2 : tie.Need-three-at-requires-2
-three-at-requires-2 c κs = search needs
+row-is-requires-2 : tie.Need-row-is-requires-2
+row-is-requires-2 c κs = search needs
 
 cells-formed-requires-2 : tie.Need-cells-formed-requires-2
 cells-formed-requires-2 c κs = search needs
 
 returns-2 : tie.Need-returns-2
 unfolding blockTest
-returns-2 c = rw (
-  ← c .before .before .before .blocks2 .ensures,
-  le-ltb _ _ (c .before .before .if1 .left),
-  c .before .three-at2 .ensures,
-  c .cells-formed2 .ensures,
-)
+returns-2 c =
+    let c₄ = c .before .before .before .before in
+    rw (
+      ← c₄ .blocks2 .ensures,
+      le-ltb _ _ (c .before .before .before .if1 .left),
+      c .before .row-is2 .ensures,
+      c .cells-formed2 .ensures,
+      c₄ .before .before .home-place .ensures,
+    )
 
 pub block-formed-spec : {M : Type 1} → statement M
 block-formed-spec =
     tie.close
     (tie.spec
-    mul-p
-    add-p
+    cast-if1
+    home-place-requires
     cards-requires
     blocks-requires
     home-at-requires
-    cast-three-at
-    cast-three-at-2
-    cast-three-at-3
-    three-at-requires
+    cast-t12
+    cast-t13
+    cast-t14
+    slice-aggregate-row-is
+    row-is-requires
     ok-home-requires
     cells-formed-requires
     returns
-    cast-three-at-4
-    three-at-requires-2
+    slice-aggregate-row-is-2
+    row-is-requires-2
     cells-formed-requires-2
     returns-2)

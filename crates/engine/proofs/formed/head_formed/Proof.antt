@@ -1,6 +1,6 @@
 -- `formed::head_formed`: the test of the header, word by word.
 use borrow.Author.Needs.{needs}
-use Rattle.engine.specs.Tested.{headTest}
+use Rattle.words.specs.Inner.Tested.{headTest}
 use Rattle.engine.proofs.formed.head_formed.Statement.{statement}
 use Rattle.engine.proofs.formed.head_formed.Tie as tie
 

@@ -1,7 +1,7 @@
 -- `formed::is_formed`: the tests of all items are the test of 15.
 use borrow.Author.Needs.{needs}
 use mathlib.Core.Path.{sym, _∙_}
-use Rattle.engine.proofs.Tested.{head-cards, is-formed, not-formed}
+use Rattle.words.proofs.Tested.{head-cards, is-formed, not-formed}
 use Rattle.engine.proofs.formed.is_formed.Statement.{statement}
 use Rattle.engine.proofs.formed.is_formed.Tie as tie
 

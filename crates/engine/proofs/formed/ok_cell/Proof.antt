@@ -1,6 +1,6 @@
 -- `formed::ok_cell`: the rules' tests of a cell, one after the other.
 use borrow.Author.Needs.{needs}
-use Rattle.engine.proofs.Checks.{cell-tested}
+use Rattle.words.proofs.Checks.{cell-tested}
 use Rattle.engine.proofs.formed.ok_cell.Statement.{statement}
 use Rattle.engine.proofs.formed.ok_cell.Tie as tie
 

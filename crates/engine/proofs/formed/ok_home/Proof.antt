@@ -6,11 +6,11 @@ use Rattle.engine.proofs.formed.ok_home.Tie as tie
 home-or-card-requires : tie.Need-home-or-card-requires
 home-or-card-requires c κs = search needs
 
-is-inside-requires : tie.Need-is-inside-requires
-is-inside-requires c κs = search needs
+inside-requires : tie.Need-inside-requires
+inside-requires c κs = search needs
 
 returns : tie.Need-returns
-returns c = rw (c .before .home-or-card .ensures, c .is-inside .ensures)
+returns c = rw (c .before .home-or-card .ensures, c .inside .ensures)
 
 pub ok-home-spec : {M : Type 1} → statement M
-ok-home-spec = tie.close (tie.spec home-or-card-requires is-inside-requires returns)
+ok-home-spec = tie.close (tie.spec home-or-card-requires inside-requires returns)

@@ -1,6 +1,6 @@
 -- `formed::ok_message`: the rules' tests of a message, one after the other.
 use borrow.Author.Needs.{needs}
-use Rattle.engine.proofs.Checks.{message-tested}
+use Rattle.words.proofs.Checks.{message-tested}
 use Rattle.engine.proofs.formed.ok_message.Statement.{statement}
 use Rattle.engine.proofs.formed.ok_message.Tie as tie
 

@@ -1,6 +1,6 @@
 -- `formed::ok_request`: the rules' tests of a request, one after the other.
 use borrow.Author.Needs.{needs}
-use Rattle.engine.proofs.Checks.{request-tested}
+use Rattle.words.proofs.Checks.{request-tested}
 use Rattle.engine.proofs.formed.ok_request.Statement.{statement}
 use Rattle.engine.proofs.formed.ok_request.Tie as tie
 

@@ -6,10 +6,10 @@ use mathlib.Core.Path.{_≡_, sym, _∙_, ap}
 use Rattle.rules.specs.Tests.{some}
 use Rattle.rules.specs.Table.{waits}
 use Rattle.rules.specs.Order.{held}
-use Rattle.rules.specs.declared.kinds.Cell.{Cell}
-use Rattle.engine.specs.Words.{view}
-use Rattle.engine.proofs.View.{view-cell}
-use Rattle.engine.proofs.Checks.{some-none, some-more, some-done}
+use Rattle.rules.specs.declared.Cell.{Cell}
+use Rattle.words.specs.Words.{view}
+use Rattle.words.proofs.View.{view-cell}
+use Rattle.words.proofs.Checks.{some-none, some-more, some-done}
 use Rattle.engine.proofs.judge.held.Statement.{statement}
 use Rattle.engine.proofs.judge.held.Tie as tie
 

@@ -1,6 +1,6 @@
 -- `judge::judge`: 12 and 9 first.
 use borrow.Author.Needs.{needs}
-use Rattle.engine.proofs.Does.{sizes}
+use Rattle.words.proofs.Does.{sizes}
 use Rattle.engine.proofs.Judging.{head-block, numbers-spent, block-held, block-free}
 use Rattle.engine.proofs.judge.judge.Statement.{statement}
 use Rattle.engine.proofs.judge.judge.Tie as tie

@@ -1,6 +1,6 @@
 -- `mask::owner_named`: home needs no name.
 use borrow.Author.Tests.{eq-eqb, ne-eqb}
-use Rattle.engine.proofs.Judging.{owner-card}
+use Rattle.words.proofs.Mask.{owner-card}
 use Rattle.engine.proofs.mask.owner_named.Statement.{statement}
 use Rattle.engine.proofs.mask.owner_named.Tie as tie
 

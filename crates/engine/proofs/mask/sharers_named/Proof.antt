@@ -7,9 +7,9 @@ use mathlib.Core.Path.{_≡_}
 use lib.Dec.{eqb}
 use Rattle.rules.specs.Tests.{_⇒_, all}
 use Rattle.rules.specs.Masks.{has}
-use Rattle.engine.specs.Ordering.{sharersNamed}
-use Rattle.engine.proofs.Checks.{all-none, all-more, all-done}
-use Rattle.engine.proofs.Judging.{named-test}
+use Rattle.rules.specs.Mask.{sharersNamed}
+use Rattle.words.proofs.Checks.{all-none, all-more, all-done}
+use Rattle.words.proofs.Mask.{named-test}
 use Rattle.engine.proofs.mask.sharers_named.Statement.{statement}
 use Rattle.engine.proofs.mask.sharers_named.Tie as tie
 

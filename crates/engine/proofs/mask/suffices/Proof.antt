@@ -1,7 +1,7 @@
 -- `mask::suffices`: the owner first, then for GETX the sharers.
 use borrow.Author.Needs.{needs}
 use borrow.Author.Tests.{not-true, not-false}
-use Rattle.engine.proofs.Judging.{owner-missed, gets-suffices, getx-suffices}
+use Rattle.words.proofs.Mask.{owner-missed, gets-suffices, getx-suffices}
 use Rattle.engine.proofs.mask.suffices.Statement.{statement}
 use Rattle.engine.proofs.mask.suffices.Tie as tie
 

@@ -1,18 +1,15 @@
--- `masks::only` is the rules' `only`: one test of the array.
+-- `masks::only`: a shift is a power.
 use borrow.Author.Needs.{needs}
-use native.Mathlib.Omega.{arith}
-use mathlib.Core.Path.{refl}
-use Rattle.rules.specs.Masks.{only}
-use Rattle.rules.proofs.Columns.{array-at}
+use Rattle.rules.specs.Numbers.{maskBits}
+use Rattle.rules.proofs.Masks.{only-shifted}
 use Rattle.engine.proofs.masks.only.Statement.{statement}
 use Rattle.engine.proofs.masks.only.Tie as tie
 
-array-read-result : tie.Need-array-read-result
-array-read-result c = search needs
+shl-result : tie.Need-shl-result
+shl-result c = search needs
 
 returns : tie.Need-returns
-unfolding only
-returns c = array-at 8 _ only 0 refl (c .args .card) (omega arith)
+returns c = only-shifted maskBits _ (search needs)
 
 pub only-spec : {M : Type 1} → statement M
-only-spec = tie.close (tie.spec array-read-result returns)
+only-spec = tie.close (tie.spec shl-result returns)

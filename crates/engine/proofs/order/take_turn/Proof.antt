@@ -3,8 +3,10 @@ use borrow.Author.Needs.{needs}
 use native.Mathlib.Omega.{arith}
 use mathlib.Core.Path.{ap}
 use Prim.Native.Nat.{_+_}
-use Rattle.engine.proofs.Does.{sizes, line-room}
+use Rattle.words.proofs.Does.{sizes, line-room}
 use Rattle.engine.proofs.Judging.{head-wf, head-card, head-block, owner-there}
+use Rattle.rules.specs.Numbers.{orderNo}
+use Rattle.rules.specs.declared.OrderNo.{OrderNo}
 use Rattle.engine.proofs.Ordered.{number-left, grant-room, same-cards, same-waiting, said, order-done}
 use Rattle.engine.proofs.order.take_turn.Statement.{statement}
 use Rattle.engine.proofs.order.take_turn.Tie as tie
@@ -16,7 +18,7 @@ add-t13 : tie.Need-add-t13
 add-t13 c =
     let p = c .before .before .before .pre in
     let l = number-left _ (p .0) (p .1) _ (p .2) _ (p .3) in
-    let e = c .before .last .ensures in omega arith
+    let e = ap (λ (n : OrderNo). n .0) (c .before .last .ensures) in omega arith
 
 home-at-requires : tie.Need-home-at-requires
 home-at-requires c κs = let p = c .before .before .before .before .pre in head-block _ (p .0) (p .1) _ (p .2)
@@ -117,7 +119,7 @@ returns c =
     order-done _ (p .0) (p .1) _ (p .2) _ (p .3)
     _ (c₁₇ .home-at .ensures) _ (c₁₅ .cell-at .ensures) _ (c₁₃ .owner-cell .ensures)
     _ (c₁₂ .given .ensures) _ _ (c₁₀ .cards-see .ensures) _ (c₈ .home-after .ensures) _ (c₇ .put-home .ensures)
-    _ (c₅ .pool-after .ensures) _ (c₃ .line-after .ensures) _ (c .before .set-last .ensures) (ap (λ n. n + 1) (c₂₀ .last .ensures))
+    _ (c₅ .pool-after .ensures) _ (c₃ .line-after .ensures) _ (c .before .set-last .ensures) (ap (λ (n : OrderNo). orderNo (n .0 + 1)) (c₂₀ .last .ensures))
     _ (c .outcome-no .ensures)
 
 pub take-turn-spec : {M : Type 1} → statement M

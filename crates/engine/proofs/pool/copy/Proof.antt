@@ -3,7 +3,7 @@ use borrow.Author.Needs.{needs}
 use native.Mathlib.Omega.{arith}
 use mathlib.Core.Path.{refl}
 use Rattle.rules.specs.Events.{reasons}
-use Rattle.engine.proofs.Pooled.{no-message, copy-full, copy-done}
+use Rattle.words.proofs.Pooled.{no-message, copy-full, copy-done}
 use Rattle.engine.proofs.pool.copy.Statement.{statement}
 use Rattle.engine.proofs.pool.copy.Tie as tie
 

@@ -4,8 +4,8 @@ use borrow.Author.Tests.{not-true, not-false}
 use native.Mathlib.Omega.{arith}
 use mathlib.Core.Path.{refl, sym, _∙_}
 use Rattle.rules.specs.Events.{reasons}
-use Rattle.engine.proofs.Does.{pool-room}
-use Rattle.engine.proofs.Pooled.{no-message, known, put-pooled, deliver-stale, deliver-taken}
+use Rattle.words.proofs.Does.{pool-room}
+use Rattle.words.proofs.Pooled.{no-message, known, put-pooled, deliver-stale, deliver-taken}
 use Rattle.engine.proofs.pool.deliver.Statement.{statement}
 use Rattle.engine.proofs.pool.deliver.Tie as tie
 

@@ -2,22 +2,25 @@
 use borrow.Author.Needs.{needs}
 use borrow.Author.Tests.{eq-eqb, ne-eqb}
 use Rattle.rules.specs.Numbers.{home}
-use Rattle.engine.proofs.Rejoined.{home-left}
+use Rattle.words.proofs.Rejoined.{home-left}
 use Rattle.engine.proofs.rejoin.home_without.Statement.{statement}
 use Rattle.engine.proofs.rejoin.home_without.Tie as tie
 
-shl-sharers : tie.Need-shl-sharers
-shl-sharers c = search needs
+only-requires : tie.Need-only-requires
+only-requires c κs = search needs
+
+without-requires : tie.Need-without-requires
+without-requires c κs = search needs
 
 returns : tie.Need-returns
 returns c =
-    let a = c .before .before .before .before .args in
-    home-left (a .h) (a .card) home (search needs) (rw (eq-eqb _ _ (c .if1 .taken)))
+    let c₂ = c .before .before in
+    home-left (c₂ .before .before .args .h) _ home _ _ (rw (eq-eqb _ _ (c .if1 .taken))) (c₂ .before .only .ensures) (c₂ .without .ensures)
 
 returns-2 : tie.Need-returns-2
 returns-2 c =
-    let a = c .before .before .before .before .args in
-    home-left (a .h) (a .card) (a .h .owner) (search needs) (rw (ne-eqb _ _ (c .if1 .left)))
+    let c₂ = c .before .before in
+    home-left (c₂ .before .before .args .h) _ _ _ _ (rw (ne-eqb _ _ (c .if1 .left))) (c₂ .before .only .ensures) (c₂ .without .ensures)
 
 pub home-without-spec : {M : Type 1} → statement M
-home-without-spec = tie.close (tie.spec shl-sharers returns returns-2)
+home-without-spec = tie.close (tie.spec only-requires without-requires returns returns-2)

@@ -3,15 +3,15 @@ use Prim.Native.Nat.{_-_, _≤_}
 use borrow.Author.Needs.{needs}
 use native.Mathlib.Omega.{arith}
 use mathlib.Core.Path.{_≡_, ap, _∙_}
-use Rattle.engine.specs.Words.{words}
-use Rattle.engine.specs.Leaving.{HomesFit, blocksLeft, BecomesIf}
-use Rattle.engine.proofs.View.{blocks-of}
-use Rattle.engine.proofs.Rejoined.{none-left, leave-next}
+use Rattle.words.specs.Words.{words}
+use Rattle.words.specs.Inner.Leaving.{BlocksFit, blocksLeft, BecomesIf}
+use Rattle.words.proofs.View.{blocks-of}
+use Rattle.words.proofs.Rejoined.{none-left, leave-next}
 use Rattle.engine.proofs.rejoin.leave_blocks.Statement.{statement}
 use Rattle.engine.proofs.rejoin.leave_blocks.Tie as tie
 
 abbrev Inv-loop : tie.InvT-loop
-Inv-loop s₀ card n block₀ s block = (block ≤ n) × BecomesIf HomesFit s₀ s (λ c. blocksLeft c card block)
+Inv-loop s₀ card n block₀ s block = (block ≤ n) × BecomesIf BlocksFit s₀ s (λ c. blocksLeft c card block)
 
 abbrev μ-loop : tie.MeasureT-loop
 μ-loop s₀ card n block₀ s block = n - block

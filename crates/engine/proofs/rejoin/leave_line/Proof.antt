@@ -2,8 +2,8 @@
 use Prim.Native.Nat.{_-_}
 use borrow.Author.Needs.{needs}
 use native.Mathlib.Omega.{arith}
-use Rattle.engine.specs.Words.{view, waitingOf}
-use Rattle.engine.proofs.Rejoined.{Leaves, leaves-none, leaves-room, leaves-pass, leaves-out, leaves-fewer, leaves-all}
+use Rattle.words.specs.Words.{view, waitingOf}
+use Rattle.words.proofs.Rejoined.{Leaves, leaves-none, leaves-room, leaves-pass, leaves-out, leaves-fewer, leaves-all}
 use Rattle.engine.proofs.rejoin.leave_line.Statement.{statement}
 use Rattle.engine.proofs.rejoin.leave_line.Tie as tie
 

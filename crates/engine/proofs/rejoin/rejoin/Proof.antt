@@ -1,8 +1,8 @@
 -- `rejoin::rejoin` ends in one of the ways of a rejoin.
 use borrow.Author.Needs.{needs}
 use native.Mathlib.Omega.{arith}
-use Rattle.engine.proofs.Does.{sizes}
-use Rattle.engine.proofs.Rejoined.{rejoin-refused, blocks-few, rejoin-done}
+use Rattle.words.proofs.Does.{sizes}
+use Rattle.words.proofs.Rejoined.{rejoin-refused, blocks-few, rejoin-done}
 use Rattle.engine.proofs.rejoin.rejoin.Statement.{statement}
 use Rattle.engine.proofs.rejoin.rejoin.Tie as tie
 

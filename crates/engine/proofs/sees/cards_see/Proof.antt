@@ -2,12 +2,12 @@
 use Prim.Native.Nat.{_-_, _≤_}
 use borrow.Author.Needs.{needs}
 use native.Mathlib.Omega.{arith}
-use Rattle.engine.proofs.Seeing.{Seen, seen-none, seen-more, seen-all}
+use Rattle.words.proofs.Seeing.{Seen, seen-none, seen-more, seen-all}
 use Rattle.engine.proofs.sees.cards_see.Statement.{statement}
 use Rattle.engine.proofs.sees.cards_see.Tie as tie
 
 abbrev Inv-loop : tie.InvT-loop
-Inv-loop s₀ turn number request owner block n card₀ s card = (card ≤ n) × Seen s₀ turn (number .0) request owner s (λ _. card)
+Inv-loop s₀ turn number request owner block n card₀ s card = (card ≤ n) × Seen s₀ turn number request owner s (λ _. card)
 
 abbrev μ-loop : tie.MeasureT-loop
 μ-loop s₀ turn number request owner block n card₀ s card = n - card

@@ -2,7 +2,7 @@
 use borrow.Author.Needs.{needs}
 use mathlib.Core.Path.{sym, _∙_}
 use borrow.Author.Tests.{not-true, not-false}
-use Rattle.engine.proofs.Started.{started, not-started}
+use Rattle.engine.proofs.Promised.{started, not-started}
 use Rattle.engine.proofs.start.start_in.Statement.{statement}
 use Rattle.engine.proofs.start.start_in.Tie as tie
 

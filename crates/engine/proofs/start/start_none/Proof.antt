@@ -4,8 +4,8 @@ use borrow.Author.Needs.{needs}
 use native.Mathlib.Omega.{arith}
 use mathlib.Core.Path.{_≡_}
 use Rattle.rules.specs.Numbers.{mostBlocks}
-use Rattle.engine.specs.Words.{words}
-use Rattle.engine.proofs.Started.{begun, none-begun, begin-next, all-begun}
+use Rattle.words.specs.Words.{words}
+use Rattle.words.proofs.Started.{begun, none-begun, begin-next, all-begun}
 use Rattle.engine.proofs.start.start_none.Statement.{statement}
 use Rattle.engine.proofs.start.start_none.Tie as tie
 
@@ -36,12 +36,4 @@ returns c = all-begun _ _ (omega arith) (c .before .loop .inv .1)
 pub start-none-spec : {M : Type 1} → statement M
 start-none-spec =
     tie.close
-    (tie.spec
-    Inv-loop
-    μ-loop
-    loop-holds
-    put-home-requires
-    add-block
-    loop-less
-    loop-again
-    returns)
+    (tie.spec Inv-loop μ-loop loop-holds put-home-requires add-block loop-less loop-again returns)

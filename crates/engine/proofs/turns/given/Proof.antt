@@ -1,5 +1,5 @@
 -- `turns::given`: home gives where it owns, and else the card that does.
-use Rattle.engine.proofs.Turned.{home-gives, card-gives}
+use Rattle.words.proofs.Turned.{home-gives, card-gives}
 use Rattle.engine.proofs.turns.given.Statement.{statement}
 use Rattle.engine.proofs.turns.given.Tie as tie
 

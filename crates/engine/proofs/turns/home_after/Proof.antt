@@ -1,8 +1,8 @@
 -- `turns::home_after`: home's part by the turn.
 use borrow.Author.Needs.{needs}
 use mathlib.Core.Path.{refl, sym}
-use Rattle.rules.specs.Order.{memoryAfter, ownerAfter, sharersAfter}
-use Rattle.engine.proofs.Turned.{home-kept}
+use Rattle.rules.specs.Order.{upshotOf}
+use Rattle.words.proofs.Turned.{home-kept}
 use Rattle.engine.proofs.turns.home_after.Statement.{statement}
 use Rattle.engine.proofs.turns.home_after.Tie as tie
 
@@ -19,16 +19,16 @@ enum-told-3 : tie.Need-enum-told-3
 enum-told-3 c = search needs
 
 returns : tie.Need-returns
-unfolding memoryAfter ownerAfter sharersAfter
-returns c = λ B is p g. rw (c .before .enum-told .given .1) (sym g, refl, c .sharers-with .ensures B is)
+unfolding upshotOf
+returns c = λ B is p g. rw (c .before .enum-told .given .1) (record { memory = sym g; owner = refl; sharers = c .sharers-with .ensures B is })
 
 returns-2 : tie.Need-returns-2
-unfolding memoryAfter ownerAfter sharersAfter
-returns-2 c = λ B is p g. rw (c .enum-told2 .given .1) (sym g, refl, refl)
+unfolding upshotOf
+returns-2 c = λ B is p g. rw (c .enum-told2 .given .1) (record { memory = sym g; owner = refl; sharers = refl })
 
 returns-3 : tie.Need-returns-3
-unfolding memoryAfter ownerAfter sharersAfter
-returns-3 c = λ B is p g. rw (c .enum-told3 .given .1) (sym p, refl, refl)
+unfolding upshotOf
+returns-3 c = λ B is p g. rw (c .enum-told3 .given .1) (record { memory = sym p; owner = refl; sharers = refl })
 
 returns-4 : tie.Need-returns-4
 returns-4 c = λ B is p g. home-kept B _ is _ _ (c .match .keys4)

@@ -1,6 +1,6 @@
 -- `turns::line_after`: the head leaves, and joins the tail again where its mask was too small.
 use borrow.Author.Needs.{needs}
-use Rattle.engine.proofs.Turned.{room-again, line-again, none-again}
+use Rattle.words.proofs.Turned.{room-again, line-again, none-again}
 use Rattle.engine.proofs.turns.line_after.Statement.{statement}
 use Rattle.engine.proofs.turns.line_after.Tie as tie
 

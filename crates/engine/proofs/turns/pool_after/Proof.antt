@@ -1,5 +1,5 @@
 -- `turns::pool_after`: the message of a grant joins the pool.
-use Rattle.engine.proofs.Turned.{grant, message-sent, none-sent}
+use Rattle.words.proofs.Turned.{grant, message-sent, none-sent}
 use Rattle.engine.proofs.turns.pool_after.Statement.{statement}
 use Rattle.engine.proofs.turns.pool_after.Tie as tie
 

@@ -1,7 +1,7 @@
 -- `fields::event_fields`: each event has its tag, and the fields that its record has.
 use borrow.Author.Needs.{needs}
 use mathlib.Core.Path.{ap}
-use Rattle.journal.specs.declared.kinds.Record.the-variants.{Happens}
+use Rattle.journal.specs.declared.Record.the-variants.{Happens}
 use Rattle.firmware.proofs.Laws.{fields-for}
 use Rattle.firmware.proofs.fields.event_fields.Statement.{statement}
 use Rattle.firmware.proofs.fields.event_fields.Tie as tie

@@ -2,7 +2,7 @@
 use borrow.Author.Needs.{needs}
 use mathlib.Core.Path.{refl, _∙_}
 use Rattle.rules.specs.Numbers.{none}
-use Rattle.rules.specs.Table.{grants, grantedTo}
+use Rattle.rules.specs.Table.{grantedStates, grantedTo}
 use Rattle.rules.proofs.Columns.{column, move-beyond}
 use Rattle.rules.proofs.table.granted_to.Statement.{statement}
 use Rattle.rules.proofs.table.granted_to.Tie as tie
@@ -12,7 +12,7 @@ place-requires c κs = search needs
 
 returns : tie.Need-returns
 unfolding grantedTo
-returns c = c .place .ensures ∙ column _ grantedTo 0 none refl (move-beyond grants refl) (c .before .before .args .state)
+returns c = c .place .ensures ∙ column _ grantedTo 0 none refl (move-beyond grantedStates refl) (c .before .before .args .state)
 
 pub granted-to-spec : {M : Type 1} → statement M
 granted-to-spec = tie.close (tie.spec place-requires returns)

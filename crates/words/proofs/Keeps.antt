@@ -1,0 +1,511 @@
+-- An event keeps formed words formed: what it leaves fits its fields, and is as Start makes it beyond the room there is.
+use Prim.Native.Nat.{ℕ, zero, suc, _^_, _≤_, _<_}
+use native.Mathlib.Omega.{arith}
+use mathlib.Core.Bool.{true, false, cond}
+use mathlib.Core.List.{List, [], _∷_, _++_}
+use mathlib.Core.Path.{_≡_, refl, sym, ap, _∙_, subst, fun-ext}
+use lib.ListN.{length}
+use lib.Dec.{eqb, ltb}
+use lib.Pow.{pow-mono}
+use borrow.Author.Tests.{eqb-true, ltb-true, ltb-false, le-ltb, leb-false}
+use Rattle.rules.specs.Lists.{replace, removed, All}
+use Rattle.rules.specs.Masks.{without, inside}
+use Rattle.rules.specs.Numbers.{mostCards, mostBlocks, maskBits, home, noNumber, nextNumber, I}
+use Rattle.rules.specs.Table.{loads, isReader, asked, seesGets, seesGetx}
+use Rattle.rules.specs.Chassis.{
+  Block,
+  Chassis,
+  aBlock,
+  cellOf,
+  stateOf,
+  idle,
+  freshBlock,
+  fresh,
+  messageOf,
+  goes,
+  goesFor,
+  storing,
+  withCell,
+  changed,
+  poolChanged,
+}
+use Rattle.rules.specs.Answers.{Result, NoneHolds}
+use Rattle.rules.specs.Order.{
+  given,
+  upshotOf,
+  ordered,
+  dataFor,
+  turn,
+  orderHead,
+  order,
+}
+use Rattle.rules.specs.Formed.{homeOrCard, unusedBlock, okRequest, okMessage, wellFormed}
+use Rattle.rules.specs.Events.{
+  EventFits,
+  noCard,
+  noBlock,
+  rightReasons,
+  noMessage,
+  reasons,
+  ask,
+  live,
+  deliver,
+  rejoinBlock,
+  rejoin,
+  effect,
+  start,
+  step,
+}
+use Rattle.rules.specs.declared.OrderNo.{OrderNo}
+use Rattle.rules.specs.declared.Cell.{Cell}
+use Rattle.rules.specs.declared.Request.{Request}
+use Rattle.rules.specs.declared.Message.{Message}
+use Rattle.rules.specs.declared.Answer.{Answer}
+use Rattle.rules.specs.declared.Answer.the-variants.{Done, Refused}
+use Rattle.rules.specs.declared.Refusal.{Refusal}
+use Rattle.rules.specs.declared.Turn.{Turn}
+use Rattle.rules.specs.declared.Turn.the-variants.{
+  GetsGranted,
+  GetxGranted,
+  GetsMissed,
+  GetxMissed,
+  PutTaken,
+  PutLapsed,
+}
+use Rattle.rules.specs.declared.Event.{Event}
+use Rattle.rules.specs.declared.Event.the-variants.{
+  Load,
+  Store,
+  Drop,
+  Ask,
+  Order,
+  Deliver,
+  Copy,
+  Rejoin,
+}
+use Rattle.rules.proofs.Tests.{test, cond-cases}
+use Rattle.rules.proofs.Lists.{replace-cases, All-append, All-removed, All-at}
+use Rattle.rules.proofs.Masks.{none-inside}
+use Rattle.rules.proofs.States.{gets-idle, getx-idle}
+use Rattle.rules.proofs.Refusals.{refused-cases}
+use Rattle.rules.proofs.Turns.{sees-cases}
+use Rattle.rules.proofs.Formed.{
+  CellWf,
+  idle-wf,
+  unused-idle,
+  BlockWf,
+  unused→,
+  request→,
+  message→,
+  SizesWf,
+  sizes→,
+  Wf,
+  wf→,
+}
+use Rattle.rules.proofs.Stays.{stays-formed}
+use Rattle.rules.proofs.Start.{start-cases, refused≢done, fresh-formed}
+use Rattle.words.specs.Words.{words, cellAt, messageAt, pooledOf, blockOf, first, view, formed}
+use Rattle.words.specs.Claims.{BlockFits, RequestFits, MessageFits, Fits, Formed-says, Start-forms, Step-forms}
+use Rattle.words.specs.Inner.Parts.{act, Does}
+use Rattle.words.proofs.Does.{sizes, step-act}
+use Rattle.words.proofs.View.{cards-of, formed-chassis, formed-words, formed-of, view-words}
+
+-- What of fitting does not follow from being well formed: values have 32 bits, and what there is no room for is as Start makes it
+
+abbrev Low : ℕ → Type 0
+Low v = v < 2 ^ 32
+
+abbrev LowCell : Cell → Type 0
+LowCell x = Low (x .value)
+
+abbrev LowMessage : Message → Type 0
+LowMessage m = Low (m .value)
+
+-- a block, by its memory and its cells
+record Within (memory : ℕ) (cell : ℕ → Cell) : Type 0 where
+  low : Low memory
+  values : (k : ℕ) → LowCell (cell k)
+  beyond : (k : ℕ) → mostCards ≤ k → cell k ≡ idle
+
+abbrev BlockWithin : Block → Type 0
+BlockWithin B = Within (B .memory) (B .cell)
+
+record Kept (c : Chassis) : Type 0 where
+  blocks : (b : ℕ) → BlockWithin (c .block b)
+  beyond : (b : ℕ) → mostBlocks ≤ b → c .block b ≡ freshBlock
+  messages : All LowMessage (c .pool)
+
+fresh-within : BlockWithin freshBlock
+fresh-within = record { low = omega arith; values = λ _. omega arith; beyond = λ _ _. refl }
+
+-- What any words say has it
+
+all-first : {A : Type 0} (P : A → Type 0) (n : ℕ) (f : ℕ → A) → ((i : ℕ) → P (f i)) → All P (first n f)
+unfolding first
+all-first P zero f h = tt
+all-first P (suc n) f h = (h zero, all-first P n (λ j. f (suc j)) (λ j. h (suc j)))
+
+said-within : (w : List ℕ) (b : ℕ) → BlockWithin (blockOf w b)
+said-within w b = record {
+  low = omega arith;
+  values = λ k. cond-cases LowCell (ltb k mostCards) (cellAt w k b) idle (λ _. omega arith) (λ _. omega arith);
+  beyond = λ k l. rw (le-ltb k mostCards l);
+}
+
+view-kept : (w : List ℕ) → Kept (view w)
+unfolding view
+view-kept w = record {
+  blocks = λ b. cond-cases BlockWithin (ltb b mostBlocks) (blockOf w b) freshBlock (λ _. said-within w b) (λ _. fresh-within);
+  beyond = λ b l. rw (le-ltb b mostBlocks l);
+  messages = all-first LowMessage (pooledOf w) (messageAt w) (λ i. omega arith);
+}
+
+-- A well formed chassis that has it fits
+
+abbrev RequestOk : Chassis → Request → Type 0
+RequestOk c r = okRequest (c .cards) (c .blocks) r ≡ true
+
+abbrev MessageOk : Chassis → Message → Type 0
+MessageOk c m = okMessage (c .cards) (c .blocks) (c .last) m ≡ true
+
+owner-fits : (cards k : ℕ) → cards ≤ mostCards → homeOrCard cards k ≡ true → k < 2 ^ 8
+unfolding homeOrCard
+owner-fits cards k few h = test (eqb k home)
+    (λ e. let z = eqb-true k home e in omega arith)
+    (λ e. let z = ltb-true k cards (rw e at h) in omega arith)
+
+mask-fits : (cards mask : ℕ) → cards ≤ mostCards → inside cards mask ≡ true → mask < 2 ^ maskBits
+unfolding inside
+mask-fits cards mask few h = omega (arith, ltb-true mask (2 ^ cards) h, pow-mono few)
+
+-- an unused block is a well formed one
+unused-wf : (cards : ℕ) (last : OrderNo) (B : Block) → unusedBlock B ≡ true → BlockWf cards last B
+unfolding homeOrCard
+unused-wf cards last B h =
+    let u = unused→ B h in
+    record {
+      owner = rw (u .owner);
+      sharers = rw (u .sharers) (none-inside cards);
+      places = λ k l. record {
+        used = λ _. subst (CellWf last) (sym (unused-idle (B .cell k) (u .cells k l))) (idle-wf last);
+        unused = λ _. u .cells k l;
+      };
+    }
+
+block-fits : (cards : ℕ) (last : OrderNo) (B : Block) → cards ≤ mostCards → BlockWf cards last B → BlockWithin B → BlockFits B
+block-fits cards last B few w h = record {
+  memory = h .low;
+  owner = owner-fits cards (B .owner) few (w .owner);
+  sharers = mask-fits cards (B .sharers) few (w .sharers);
+  cells = λ k l. record {
+    state = test (ltb k cards)
+        (λ e. let z = w .places k l .used (ltb-true k cards e) .code in omega arith)
+        (λ e. rw (unused-idle (B .cell k) (w .places k l .unused (ltb-false k cards e))) (omega arith));
+    value = h .values k;
+  };
+  beyond = h .beyond;
+}
+
+request-fits : (cards blocks : ℕ) (r : Request) → SizesWf cards blocks → okRequest cards blocks r ≡ true → RequestFits r
+request-fits cards blocks r few h =
+    let w = request→ cards blocks r h in
+    record {
+      card = omega arith;
+      block = omega arith;
+      kind = omega arith;
+      mask = mask-fits cards (r .mask) (few .few-cards) (w .mask);
+      retry = omega arith;
+    }
+
+message-fits : (cards blocks : ℕ) (last : OrderNo) (m : Message) → SizesWf cards blocks → okMessage cards blocks last m ≡ true → LowMessage m
+    → MessageFits m
+message-fits cards blocks last m few h v =
+    let w = message→ cards blocks last m h in
+    record {
+      sender = owner-fits cards (m .sender) (few .few-cards) (w .sender);
+      receiver = omega arith;
+      block = omega arith;
+      value = v;
+    }
+
+chassis-fits : (c : Chassis) → Wf c → Kept c → Fits c
+chassis-fits c w h =
+    let n = c .last in
+    let few = sizes→ (c .cards) (c .blocks) (w .size) in
+    record {
+      line-room = w .line-room;
+      pool-room = w .pool-room;
+      blocks = λ b l. block-fits (c .cards) n (c .block b) (few .few-cards) (test (ltb b (c .blocks))
+          (λ e. w .used b l (ltb-true b (c .blocks) e))
+          (λ e. unused-wf (c .cards) n (c .block b) (w .unused b l (ltb-false b (c .blocks) e)))) (h .blocks b);
+      beyond = h .beyond;
+      requests = λ i l. request-fits (c .cards) (c .blocks) _ few
+          (All-at (RequestOk c) (c .line) i _ l (w .requests));
+      messages = λ i l. message-fits (c .cards) (c .blocks) n _ few
+          (All-at (MessageOk c) (c .pool) i _ l (w .messages))
+          (All-at LowMessage (c .pool) i _ l (h .messages));
+    }
+
+-- so its words are formed, and say it
+abbrev pub Sayable : Chassis → Type 0
+Sayable c = (formed (words c) ≡ true) × (view (words c) ≡ c)
+
+words-say : (c : Chassis) → wellFormed c ≡ true → Kept c → Sayable c
+words-say c h k =
+    let again = view-words c (chassis-fits c (wf→ c h) k) in
+    (formed-of (words c) (sym (ap words again)) (subst (λ d. wellFormed d ≡ true) (sym again) h), again)
+
+-- What a turn leaves of cells, memory and pool
+
+-- "The value is 0 in a state without Load"
+goes-low : (n : OrderNo) (s : ℕ) (x : Cell) → LowCell x → LowCell (goesFor n s x)
+goes-low n s x h = cond-cases Low (loads s) (x .value) 0 (λ _. h) (λ _. omega arith)
+
+-- a cell that a request moves: its value stays low, and where no card is it stays idle
+pub record Moves (x y : Cell) : Type 0 where
+  low : LowCell x → LowCell y
+  pub idles : x ≡ idle → y ≡ idle
+
+stays : (x : Cell) → Moves x x
+stays x = record { low = λ h. h; idles = λ e. e }
+
+moves : (f : ℕ → ℕ) (x : Cell) → f I ≡ I → Moves x (goes (f (x .state)) x)
+unfolding loads
+moves f x i = record {
+  low = goes-low noNumber (f (x .state)) x;
+  idles = λ e. ap (λ y. goes (f (y .state)) y) e ∙ rw i;
+}
+
+reads : (x : Cell) → Moves x (cond (isReader (x .state)) (goes (seesGetx (x .state)) x) x)
+reads x = cond-cases (Moves x) (isReader (x .state)) (goes (seesGetx (x .state)) x) x (λ _. moves seesGetx x getx-idle) (λ _. stays x)
+
+-- the asker's cell, the owner's, another's in the mask
+asker-low : (t : Turn) (n : OrderNo) (x : Cell) → LowCell x → LowCell (upshotOf t .askerSees n x)
+unfolding upshotOf
+asker-low GetsGranted n x h = goes-low n _ x h
+asker-low GetxGranted n x h = goes-low n _ x h
+asker-low GetsMissed n x h = h
+asker-low GetxMissed n x h = h
+asker-low PutTaken n x h = omega arith
+asker-low PutLapsed n x h = omega arith
+
+pub owner-moves : (t : Turn) (x : Cell) → Moves x (upshotOf t .ownerSees x)
+unfolding upshotOf
+owner-moves GetsGranted x = moves seesGets x gets-idle
+owner-moves GetxGranted x = moves seesGetx x getx-idle
+owner-moves GetsMissed x = stays x
+owner-moves GetxMissed x = stays x
+owner-moves PutTaken x = stays x
+owner-moves PutLapsed x = stays x
+
+pub reader-moves : (t : Turn) (x : Cell) → Moves x (upshotOf t .readerSees x)
+unfolding upshotOf
+reader-moves GetsGranted x = stays x
+reader-moves GetxGranted x = reads x
+reader-moves GetsMissed x = stays x
+reader-moves GetxMissed x = reads x
+reader-moves PutTaken x = stays x
+reader-moves PutLapsed x = stays x
+
+module _ (B : Block) (h : BlockWithin B) (r : Request) (n : OrderNo) where
+  given-low : Low (given B)
+  unfolding given
+  given-low = cond-cases Low (eqb (B .owner) home) (B .memory) _ (λ _. h .low) (λ _. h .values (B .owner))
+
+  -- memory, and what is sent
+  turn-low : (t : Turn) → Low (upshotOf t .memory B (r .card)) × All LowMessage (upshotOf t .sent B r n)
+  unfolding upshotOf dataFor
+  turn-low GetsGranted = (given-low, (given-low, tt))
+  turn-low GetxGranted = (given-low, (given-low, tt))
+  turn-low GetsMissed = (h .low, tt)
+  turn-low GetxMissed = (h .low, tt)
+  turn-low PutTaken = (h .values (r .card), tt)
+  turn-low PutLapsed = (h .low, tt)
+
+  ordered-within : (t : Turn) → r .card < mostCards → BlockWithin (ordered t B r n)
+  unfolding ordered
+  ordered-within t q< = record {
+    low = turn-low t .0;
+    values = λ k. let x = B .cell k in sees-cases LowCell t B r n k
+        (λ _. asker-low t n x (h .values k)) (λ _ _. owner-moves t x .low (h .values k))
+        (λ _ _ _. reader-moves t x .low (h .values k)) (λ _ _ _. h .values k);
+    beyond = λ k l. let x = B .cell k in sees-cases (λ (y : Cell). y ≡ idle) t B r n k
+        (λ e. absurd (omega arith)) (λ _ _. owner-moves t x .idles (h .beyond k l))
+        (λ _ _ _. reader-moves t x .idles (h .beyond k l)) (λ _ _ _. h .beyond k l);
+  }
+
+-- A block anew
+
+-- one cell anew: of a card that there is room for, or idle
+cell-within : {memory : ℕ} {cell : ℕ → Cell} (k : ℕ) (x : Cell) → LowCell x → (mostCards ≤ k → x ≡ idle)
+    → Within memory cell → Within memory (replace cell k x)
+cell-within {memory} {cell} k x v i h = record {
+  low = h .low;
+  values = λ j. replace-cases LowCell cell k x j (λ _. v) (λ _. h .values j);
+  beyond = λ j l. replace-cases (λ (y : Cell). y ≡ idle) cell k x j (λ e. i (omega arith)) (λ _. h .beyond j l);
+}
+
+-- a card that rejoins leaves a fresh block as it is
+pub rejoin-fresh : (k : ℕ) → rejoinBlock k freshBlock ≡ freshBlock
+unfolding rejoinBlock without
+rejoin-fresh k =
+    let o : cond (eqb home k) home home ≡ home = cond-cases (λ y. y ≡ home) (eqb home k) home home (λ _. refl) (λ _. refl) in
+    let x : replace (λ _. idle) k idle ≡ (λ _. idle) = fun-ext (λ j.
+    replace-cases (λ y. y ≡ idle) (λ _. idle) k idle j (λ _. refl) (λ _. refl)) in
+    λ i. aBlock 0 (o i) 0 (x i)
+
+-- What an event leaves
+
+module _ {c : Chassis} (w : Wf c) (h : Kept c) where
+  card-room : {k : ℕ} → k < c .cards → k < mostCards
+  card-room l = let few = sizes→ (c .cards) (c .blocks) (w .size) in omega arith
+
+  block-room : {b : ℕ} → b < c .blocks → b < mostBlocks
+  block-room l = let few = sizes→ (c .cards) (c .blocks) (w .size) in omega arith
+
+  -- the pool anew; a block anew, with line, pool and last number; one cell of a card that is there anew
+  pool-kept : (p : List Message) → All LowMessage p → Kept (poolChanged c p)
+  pool-kept p l = record { blocks = h .blocks; beyond = h .beyond; messages = l }
+
+  changed-kept : (b : ℕ) (B : Block) (l : List Request) (p : List Message) (n : OrderNo) → b < c .blocks → BlockWithin B → All LowMessage p
+      → Kept (changed c b B l p n)
+  changed-kept b B l p n b< x ms = record {
+    blocks = λ j. replace-cases BlockWithin (c .block) b B j (λ _. x) (λ _. h .blocks j);
+    beyond = λ j far. replace-cases (λ X. X ≡ freshBlock) (c .block) b B j
+        (λ e. absurd (let r = block-room b< in omega arith)) (λ _. h .beyond j far);
+    messages = ms;
+  }
+
+  cell-kept : (k b : ℕ) (x : Cell) (l : List Request) (p : List Message) → k < c .cards → b < c .blocks → LowCell x → All LowMessage p
+      → Kept (changed c b (withCell (c .block b) k x) l p (c .last))
+  cell-kept k b x l p k< b< v ms =
+      changed-kept b _ l p (c .last) b< (cell-within k x v (λ l. absurd (let r = card-room k< in omega arith)) (h .blocks b)) ms
+
+  deliver-kept : (i : ℕ) (m : Message) → MessageOk c m → LowMessage m → Kept (deliver c i m .after)
+  unfolding deliver
+  deliver-kept i m ok v =
+      let x = message→ (c .cards) (c .blocks) (c .last) m ok in
+      let rest = All-removed LowMessage i (c .pool) (h .messages) in
+      cond-cases (λ (o : Result). Kept (o .after)) (live (c .block (m .block)) m) _ _
+      (λ _. cell-kept (m .receiver) (m .block) _ (c .line) (removed i (c .pool)) (x .receiver) (x .block) v rest)
+      (λ _. pool-kept (removed i (c .pool)) rest)
+
+  rejoin-kept : (k : ℕ) → Kept (rejoin c k)
+  unfolding rejoin rejoinBlock
+  rejoin-kept k = record {
+    blocks = λ b. cell-within k idle (omega arith) (λ _. refl) (h .blocks b);
+    beyond = λ b far. ap (rejoinBlock k) (h .beyond b far) ∙ rejoin-fresh k;
+    messages = h .messages;
+  }
+
+  order-kept : (l : List Request) → c .line ≡ l → Kept (order c l .after)
+  unfolding order orderHead
+  order-kept [] at = h
+  order-kept (r ∷ rest) at =
+      let B = c .block (r .block) in
+      let n = nextNumber (c .last) in
+      let t = turn (c .cards) B r in
+      let x = request→ (c .cards) (c .blocks) r (subst (All (RequestOk c)) at (w .requests) .0) in
+      changed-kept (r .block) _ (rest ++ upshotOf t .again (c .cards) B r) (c .pool ++ upshotOf t .sent B r n) n (x .block)
+      (ordered-within B (h .blocks (r .block)) r n t (card-room (x .card)))
+      (All-append LowMessage (c .pool) (upshotOf t .sent B r n) (h .messages) (turn-low B (h .blocks (r .block)) r n t .1))
+
+  -- every event
+  effect-kept : (e : Event) → NoneHolds (reasons c e) → EventFits e → Kept (effect c e .after)
+  unfolding reasons rightReasons noCard noBlock noMessage effect ask
+  effect-kept (Load k b) g f = h
+  effect-kept (Store k b v) g f =
+      cell-kept k b (storing v (cellOf c k b)) (c .line) (c .pool) (leb-false (c .cards) k (g .0)) (leb-false (c .blocks) b (g .1 .0))
+      f (h .messages)
+  effect-kept (Drop k b) g f =
+      cell-kept k b idle (c .line) (c .pool) (leb-false (c .cards) k (g .0)) (leb-false (c .blocks) b (g .1 .0)) (omega arith) (h .messages)
+  effect-kept (Ask k b kind mask) g f =
+      cell-kept k b _ _ (c .pool) (leb-false (c .cards) k (g .0)) (leb-false (c .blocks) b (g .1 .0))
+      (goes-low noNumber (asked kind (stateOf c k b)) (cellOf c k b) (h .blocks b .values k)) (h .messages)
+  effect-kept Order g f = order-kept (c .line) refl
+  effect-kept (Deliver i) g f =
+      let l = leb-false (length (c .pool)) i (g .0) in
+      deliver-kept i (messageOf c i)
+      (All-at (MessageOk c) (c .pool) i _ l (w .messages))
+      (All-at LowMessage (c .pool) i _ l (h .messages))
+  effect-kept (Copy i) g f =
+      let low = All-at LowMessage (c .pool) i _ (leb-false (length (c .pool)) i (g .0)) (h .messages) in
+      pool-kept (c .pool ++ messageOf c i ∷ []) (All-append LowMessage (c .pool) (messageOf c i ∷ []) (h .messages) (low, tt))
+  effect-kept (Rejoin k) g f = rejoin-kept k
+
+  act-kept : (e : Event) → EventFits e → Kept (act c e .after)
+  unfolding act
+  act-kept e f = refused-cases c (λ (o : Result). Kept (o .after)) (reasons c e) (effect c e) (λ _. h) (λ g. effect-kept e g f)
+
+-- Formed words stay formed
+
+-- the words that an event leaves of formed words
+pub act-says : (w : List ℕ) (e : Event) → formed w ≡ true → EventFits e → Sayable (act (view w) e .after)
+act-says w e h f =
+    let c = view w in
+    let wf = formed-chassis w h in
+    words-say (act c e .after)
+    (subst (λ (o : Result). wellFormed (o .after) ≡ true) (step-act c e wf) (stays-formed c e wf))
+    (act-kept (wf→ c wf) (view-kept w) e f)
+
+-- an event keeps a chassis that its words say
+pub step-says : (c : Chassis) (e : Event) → EventFits e → Sayable c → Sayable (step c e .after)
+step-says c e f h =
+    let well : wellFormed c ≡ true = subst (λ (d : Chassis). wellFormed d ≡ true) (h .1) (formed-chassis (words c) (h .0)) in
+    subst (λ (o : Result). Sayable (o .after)) (sym (step-act c e well))
+    (subst (λ (d : Chassis). Sayable (act d e .after)) (h .1) (act-says (words c) e (h .0) f))
+
+-- what does an event leaves formed words formed
+pub does-formed : (w : List ℕ) (e : Event) (r : Answer) (w′ : List ℕ) → formed w ≡ true → EventFits e → Does w e r w′ → formed w′ ≡ true
+does-formed w e r w′ h f d = subst (λ (l : List ℕ). formed l ≡ true) (sym (d .after)) (act-says w e h f .0)
+
+-- the words of a chassis just started say it, whatever its size
+pub fresh-view : (cards blocks : ℕ) → view (words (fresh cards blocks)) ≡ fresh cards blocks
+fresh-view cards blocks = view-words (fresh cards blocks) (record {
+  line-room = omega arith;
+  pool-room = omega arith;
+  blocks = λ b l. record {
+    memory = omega arith;
+    owner = omega arith;
+    sharers = omega arith;
+    cells = λ k m. record { state = omega arith; value = omega arith };
+    beyond = λ k m. refl;
+  };
+  beyond = λ b l. refl;
+  requests = λ i l. absurd (omega arith);
+  messages = λ i l. absurd (omega arith);
+})
+
+-- the words that an accepted Start makes
+pub start-says : (cards blocks v : ℕ) → start cards blocks .answer ≡ Done v → Sayable (start cards blocks .after)
+start-says cards blocks v = start-cases cards blocks (λ (o : Result). o .answer ≡ Done v → Sayable (o .after))
+    (λ s _. words-say (fresh cards blocks) (fresh-formed cards blocks s)
+    (record { blocks = λ _. fresh-within; beyond = λ _ _. refl; messages = tt }))
+    (λ r e. absurd (refused≢done r v e))
+
+-- a refused one makes none
+none-formed : formed (words (fresh 0 0)) ≡ false
+none-formed = test (formed (words (fresh 0 0)))
+    (λ e. absurd (let s = sizes (words (fresh 0 0)) e .a-card in let n = cards-of (fresh 0 0) (words (fresh 0 0)) refl in omega arith))
+    (λ e. e)
+
+pub start-refused-words : (cards blocks : ℕ) (r : Refusal) → start cards blocks .answer ≡ Refused r
+    → formed (words (start cards blocks .after)) ≡ false
+start-refused-words cards blocks r = start-cases cards blocks (λ (o : Result). o .answer ≡ Refused r → formed (words (o .after)) ≡ false)
+    (λ _ e. absurd (refused≢done r 0 (sym e)))
+    (λ _ _. none-formed)
+
+-- The claims
+
+pub formed-says : Formed-says
+formed-says = record {
+  says = λ w h. (formed-words w h, chassis-fits (view w) (wf→ (view w) (formed-chassis w h)) (view-kept w), formed-chassis w h);
+  said = λ c f h. let again = view-words c f in formed-of (words c) (sym (ap words again)) (subst (λ d. wellFormed d ≡ true) (sym again) h);
+}
+
+pub start-forms : Start-forms
+start-forms cards blocks v h = start-says cards blocks v h .0
+
+pub step-forms : Step-forms
+step-forms w e f h =
+    subst (λ (o : Result). formed (words (o .after)) ≡ true) (sym (step-act (view w) e (formed-chassis w h))) (act-says w e h f .0)
