@@ -1,5 +1,6 @@
 -- `report::first_difference`: the loop ends, and each place is there.
 use borrow.Author.Needs.{needs}
+use Rattle.words.specs.Layout.{allWords}
 use Prim.Native.Nat.{_-_}
 use Rattle.checks.proofs.report.first_difference.Statement.{statement}
 use Rattle.checks.proofs.report.first_difference.Tie as tie
@@ -8,7 +9,7 @@ abbrev Inv-loop : tie.InvT-loop
 Inv-loop a b i₀ i = Unit
 
 abbrev μ-loop : tie.MeasureT-loop
-μ-loop a b i₀ i = 1509 - i
+μ-loop a b i₀ i = allWords - i
 
 loop-holds : tie.Need-loop-holds Inv-loop μ-loop
 loop-holds c = search needs

@@ -1,8 +1,8 @@
--- `records::same`: the loop ends, and each place is there.
+-- `same`: the loop ends, and each place is there.
 use borrow.Author.Needs.{needs}
 use Prim.Native.Nat.{_-_}
-use Rattle.checks.proofs.records.same.Statement.{statement}
-use Rattle.checks.proofs.records.same.Tie as tie
+use Rattle.records.proofs.same.Statement.{statement}
+use Rattle.records.proofs.same.Tie as tie
 
 abbrev Inv-loop : tie.InvT-loop
 Inv-loop a b i₀ i = Unit

@@ -1,15 +1,13 @@
 // Records written into a lent buffer and read from it: each kind, where there is no room, and what is not read.
-use crate::report::begin;
-use crate::report::number;
-use journal::kinds::Found;
-use journal::kinds::Record;
-use journal::kinds::Written;
+use journal::Found;
+use journal::Record;
+use journal::Written;
 use journal::numbers::damage_no;
 use journal::numbers::written_no;
 use journal::reading::place_after;
 use journal::reading::read;
 use journal::writing::write;
-use rules::kinds::Event;
+use rules::Event;
 
 // The length of each buffer, and the byte that a fresh one is filled with.
 const ROOM: usize = 16;
@@ -17,7 +15,7 @@ const ROOM: usize = 16;
 const FILLER: u8 = 170;
 
 // Each group in a row.
-pub(crate) fn run() {
+fn main() {
     cards();
     requests();
     room();
@@ -117,7 +115,7 @@ fn event(name: &[u8], at: usize, event: Event) {
 fn tell(name: &[u8], at: usize, one: Record) {
     let mut buffer = [FILLER; ROOM];
     let answer = write(&mut buffer, at, one);
-    begin(b"records", name);
+    begin(name);
     say_written(answer);
     io::write_all(1, b",");
     say_read(buffer, at);
@@ -125,7 +123,7 @@ fn tell(name: &[u8], at: usize, one: Record) {
 
 // Tells the bytes of a buffer that no writer made, and what is read there.
 fn damaged(name: &[u8], at: usize, buffer: [u8; ROOM]) {
-    begin(b"records", name);
+    begin(name);
     say_read(buffer, at);
 }
 
@@ -206,4 +204,16 @@ fn say_four(a: u8, b: u8, c: u8, d: u8) {
     number(b as u64);
     number(c as u64);
     number(d as u64);
+}
+
+// The name of a check.
+fn begin(name: &[u8]) {
+    io::write_all(1, name);
+    io::write_all(1, b":");
+}
+
+// A number, with a space before it.
+fn number(n: u64) {
+    io::write_all(1, b" ");
+    io::print_decimal(1, n);
 }

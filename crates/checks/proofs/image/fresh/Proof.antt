@@ -1,14 +1,15 @@
--- `build::fresh`: the loop ends, and its places are there.
+-- `image::fresh`: the loop ends.
 use borrow.Author.Needs.{needs}
+use Rattle.rules.specs.Numbers.{mostBlocks}
 use Prim.Native.Nat.{_-_}
-use Rattle.checks.proofs.build.fresh.Statement.{statement}
-use Rattle.checks.proofs.build.fresh.Tie as tie
+use Rattle.checks.proofs.image.fresh.Statement.{statement}
+use Rattle.checks.proofs.image.fresh.Tie as tie
 
 abbrev Inv-loop : tie.InvT-loop
 Inv-loop cards blocks w₀ block₀ w block = Unit
 
 abbrev μ-loop : tie.MeasureT-loop
-μ-loop cards blocks w₀ block₀ w block = 32 - block
+μ-loop cards blocks w₀ block₀ w block = mostBlocks - block
 
 array-write-w : tie.Need-array-write-w Inv-loop μ-loop
 array-write-w c = search needs
@@ -19,11 +20,20 @@ array-write-w-2 c = search needs
 loop-holds : tie.Need-loop-holds Inv-loop μ-loop
 loop-holds c = search needs
 
-cast-set-home : tie.Need-cast-set-home Inv-loop μ-loop
-cast-set-home c = search needs
+cast-home-at : tie.Need-cast-home-at Inv-loop μ-loop
+cast-home-at c = search needs
 
-set-home-requires : tie.Need-set-home-requires Inv-loop μ-loop
-set-home-requires c κs = search needs
+home-at-requires : tie.Need-home-at-requires Inv-loop μ-loop
+home-at-requires c κs = search needs
+
+add-set : tie.Need-add-set Inv-loop μ-loop
+add-set c = search needs
+
+cast-set : tie.Need-cast-set Inv-loop μ-loop
+cast-set c = search needs
+
+set-requires : tie.Need-set-requires Inv-loop μ-loop
+set-requires c κs = search needs
 
 add-block : tie.Need-add-block Inv-loop μ-loop
 add-block c = search needs
@@ -46,8 +56,11 @@ fresh-spec =
     array-write-w
     array-write-w-2
     loop-holds
-    cast-set-home
-    set-home-requires
+    cast-home-at
+    home-at-requires
+    add-set
+    cast-set
+    set-requires
     add-block
     loop-less
     loop-again
