@@ -19,7 +19,7 @@ use Rattle.firmware.proofs.Unique.{
   writes-unique,
   run-says-unique,
 }
-use Rattle.demands.specs.Demands.{Nothing-second, Demand-1, Words-tell, Demand-2, Demand-3, Marked-sequences}
+use Rattle.demands.specs.Demands.{Nothing-second, Demand-1, Words-tell, Demand-2, Demand-3, Marked-sequences, All-demands}
 use Rattle.demands.proofs.Entries.{every-entry}
 use Rattle.demands.proofs.Numbers.{by-number}
 use Rattle.demands.proofs.Answered.{exactly-when, refused-leaves, as-the-rules}
@@ -76,3 +76,11 @@ demand-3 = record { calls-coherent = calls-coherent }
 
 pub marked-sequences : Marked-sequences
 marked-sequences = record { marked-come = marked-come }
+
+pub all-demands : All-demands
+all-demands = record {
+  first = demand-1;
+  second = demand-2;
+  third = demand-3;
+  marked = marked-sequences;
+}

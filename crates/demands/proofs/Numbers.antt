@@ -42,9 +42,9 @@ use Rattle.firmware.specs.Journals.{foundNumber, ranNumber, Writes}
 use Rattle.firmware.specs.declared.Named.{Named}
 use Rattle.firmware.specs.declared.Named.the-variants.{One, Unknown}
 use Rattle.firmware.proofs.Unique.{halves-tell, values-fit}
-use Rattle.demands.specs.Demands.{numbers, Listed, By-number}
+use Rattle.demands.specs.Demands.{engineNumbers, readingNumbers, Listed, By-number}
 
-refusal : (x : Refusal) → Listed (refusalNo x)
+refusal : (x : Refusal) → oneOf engineNumbers (refusalNo x) ≡ true
 unfolding oneOf
 refusal NoSuchCard = refl
 refusal NoSuchBlock = refl
@@ -62,17 +62,44 @@ refusal Impossible = refl
 refusal NoSuchSize = refl
 refusal IllFormed = refl
 
-answer : (r : Answer) → Listed (refusalOf r)
-unfolding oneOf
-answer (Done v) = refl
-answer (Refused x) = refusal x
-
-damage : (d : Damage) → Listed (damageNo d)
+damage : (d : Damage) → oneOf readingNumbers (damageNo d) ≡ true
 unfolding oneOf
 damage CutShort = refl
 damage UnknownTag = refl
 damage WrongLength = refl
 damage WrongOpening = refl
+
+-- as one of all lists
+
+refusal-listed : (x : Refusal) → Listed (refusalNo x)
+unfolding oneOf
+refusal-listed NoSuchCard = refl
+refusal-listed NoSuchBlock = refl
+refusal-listed NoRight = refl
+refusal-listed AskNotAllowed = refl
+refusal-listed NoSuchKind = refl
+refusal-listed StrangerInMask = refl
+refusal-listed LineFull = refl
+refusal-listed LineEmpty = refl
+refusal-listed BlockHeld = refl
+refusal-listed PoolFull = refl
+refusal-listed NoSuchMessage = refl
+refusal-listed NumbersSpent = refl
+refusal-listed Impossible = refl
+refusal-listed NoSuchSize = refl
+refusal-listed IllFormed = refl
+
+answer : (r : Answer) → Listed (refusalOf r)
+unfolding oneOf
+answer (Done v) = refl
+answer (Refused x) = refusal-listed x
+
+damage-listed : (d : Damage) → Listed (damageNo d)
+unfolding oneOf
+damage-listed CutShort = refl
+damage-listed UnknownTag = refl
+damage-listed WrongLength = refl
+damage-listed WrongOpening = refl
 
 written : (r : Written) → Listed (writtenNo r)
 unfolding oneOf
@@ -91,23 +118,24 @@ found : (f : Found) → Listed (foundNumber f / half)
 unfolding oneOf
 found (Whole one next) = refl
 found End = refl
-found (Damaged d) = upper _ (damageNo d) refl (damage d)
+found (Damaged d) = upper _ (damageNo d) refl (damage-listed d)
 
 ran : (r : Ran) → Listed (ranNumber r / half)
 unfolding oneOf
 ran (Ran.More q n) = refl
 ran (Ran.Over q n) = refl
-ran (Ran.Refused x) = upper _ (refusalNo x) refl (refusal x)
+ran (Ran.Refused x) = upper _ (refusalNo x) refl (refusal-listed x)
 
 writes : (buffer : List ℕ) (place : ℕ) (x : Named) (n : ℕ) (buffer′ : List ℕ) (place′ : ℕ) → Writes buffer place x n buffer′ place′ → Listed (n / half)
 writes buffer place (One one) n buffer′ place′ h = upper n (writtenNo (h .0)) (h .2) (written (h .0))
-writes buffer place Unknown n buffer′ place′ h = upper n (damageNo UnknownTag) (h .0) (damage UnknownTag)
+writes buffer place Unknown n buffer′ place′ h = upper n (damageNo UnknownTag) (h .0) (damage-listed UnknownTag)
 
 pub by-number : By-number
+unfolding oneOf
 by-number = record {
-  answer = answer;
+  refusal = refusal;
   damage = damage;
-  written = written;
+  no-room = refl;
   c-start = λ cards blocks n w′ h. subst Listed
       (sym (ap (λ m. m / half) (h .told) ∙ halves-tell (h .answer) (values-fit .start cards blocks (h .answer) w′ (h .kept)) .0)) (answer (h .answer));
   c-event = λ w e n w′ h. subst Listed

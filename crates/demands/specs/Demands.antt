@@ -1,11 +1,12 @@
 -- What the customer asked for, in the customer's words and order: a reader begins here.
 --
--- Each claim is about the public functions by what they promise: Starts and Answers (engine/specs/Promise), Runs (engine/specs/Running),
--- readAt and Puts (journal/specs), and for C Says, Reads, Writes and RunSays (firmware/specs). What the promises say is in the rules
--- (rules/specs), the words of a chassis (words/specs) and the records (journal/specs), each in the paper's words.
+-- `Every-entry` says what each public function promises: Starts and Answers (engine/specs/Promise), Runs (engine/specs/Running), readAt and
+-- Puts (journal/specs), and for C Says, Reads, Writes and RunSays (firmware/specs). All else is claimed of whatever keeps these promises.
+-- What they say is in the rules (rules/specs), the words of a chassis (words/specs) and the records (journal/specs), each in the paper's
+-- words. EventFits and Bytes say of numbers what the kinds u32 and u8 say of the arguments.
 use Prim.Native.Nat.{ℕ, _+_, _/_, _%_}
 use mathlib.Core.Bool.{true, false, cond}
-use mathlib.Core.List.{List, [], _∷_}
+use mathlib.Core.List.{List, [], _∷_, _++_}
 use mathlib.Core.Path.{_≡_}
 use mathlib.Core.Logic.{_≢_}
 use lib.ListN.{length}
@@ -178,25 +179,33 @@ pub record Every-entry : Type 2 where
   pub granted-to : Keeps table-granted-to.ended table-granted-to.Symbol.routine (λ κs a r end. r ≡ grantedTo (a .0))
   pub filled-to : Keeps table-filled-to.ended table-filled-to.Symbol.routine (λ κs a r end. r ≡ filledTo (a .0))
 
--- "Numbers the engine says no with", and 0 for what is done
-abbrev pub numbers : List ℕ
-numbers = 0 ∷ 1 ∷ 2 ∷ 3 ∷ 4 ∷ 5 ∷ 6 ∷ 7 ∷ 8 ∷ 9 ∷ 10 ∷ 11 ∷ 12 ∷ 13 ∷ 14 ∷ 15 ∷ 20 ∷ 21 ∷ 22 ∷ 23 ∷ 24 ∷ []
+-- "Numbers the engine says no with"; those of reading a record, and of writing one
+abbrev pub engineNumbers : List ℕ
+engineNumbers = 1 ∷ 2 ∷ 3 ∷ 4 ∷ 5 ∷ 6 ∷ 7 ∷ 8 ∷ 9 ∷ 10 ∷ 11 ∷ 12 ∷ 13 ∷ 14 ∷ 15 ∷ []
 
+abbrev pub readingNumbers : List ℕ
+readingNumbers = 20 ∷ 21 ∷ 22 ∷ 23 ∷ []
+
+abbrev pub writingNumbers : List ℕ
+writingNumbers = 24 ∷ []
+
+-- in C: 0, or a number of the list
 abbrev pub Listed : ℕ → Type 0
-Listed n = oneOf numbers n ≡ true
+Listed n = oneOf (0 ∷ engineNumbers ++ readingNumbers ++ writingNumbers) n ≡ true
 
--- of every way to answer: what is refused has a number of the list; in C it is the number's upper half
+-- of every way to refuse: it has a number of its list; in C it is the answer's upper half
 pub record By-number : Type 0 where
-  pub answer : (r : Answer) → Listed (refusalOf r)
-  pub damage : (d : Damage) → Listed (damageNo d)
-  pub written : (r : Written) → Listed (writtenNo r)
+  pub refusal : (x : Refusal) → oneOf engineNumbers (refusalNo x) ≡ true
+  pub damage : (d : Damage) → oneOf readingNumbers (damageNo d) ≡ true
+  pub no-room : oneOf writingNumbers (writtenNo NoRoom) ≡ true
   pub c-start : (cards blocks n : ℕ) (w′ : List ℕ) → Says (λ r. Starts cards blocks r w′) n → Listed (n / half)
   pub c-event : (w : List ℕ) (e : Event) (n : ℕ) (w′ : List ℕ) → Says (λ r. Answers w e r w′) n → Listed (n / half)
   pub c-read : (journal : List ℕ) (place : ℕ) (l : List ℕ) (n place′ : ℕ) (l′ : List ℕ) → Reads journal place l n place′ l′ → Listed (n / half)
   pub c-write : (buffer : List ℕ) (place : ℕ) (x : Named) (n : ℕ) (buffer′ : List ℕ) (place′ : ℕ) → Writes buffer place x n buffer′ place′ → Listed (n / half)
   pub c-run : (w journal l t : List ℕ) (n : ℕ) (w′ l′ t′ : List ℕ) → RunSays w journal l t n w′ l′ t′ → Listed (n / half)
 
--- the first reason of the event's list that holds, and no other, refuses it; 15 comes before all, 14 at Start, 24 at writing
+-- the first reason of the event's list that holds, and no other, refuses it; 15 comes before all, 14 at Start, 24 at writing. For reading,
+-- readAt is the list of 20 to 23 itself; a run refuses with 15 where what it is handed is not `fit`
 pub record Exactly-when : Type 0 where
   pub ill-formed : (w : List ℕ) (e : Event) (r : Answer) (w′ : List ℕ) → Answers w e r w′ → formed w ≡ false → r ≡ Refused IllFormed
   pub refused : (w : List ℕ) (e : Event) (r : Answer) (w′ : List ℕ) → Answers w e r w′ → formed w ≡ true
@@ -207,7 +216,7 @@ pub record Exactly-when : Type 0 where
   pub written : (buffer : List ℕ) (at : ℕ) (bytes : List ℕ) (r : Written) (buffer′ : List ℕ) → Puts buffer at bytes r buffer′
       → r ≡ cond (fits buffer at bytes) (UpTo (at + length bytes)) NoRoom
 
--- what is refused leaves all that is lent as it was; Start alone makes the words of no chassis then
+-- what is refused leaves all that is lent as it was; Start alone makes the words of no chassis then, and so does a run that is to start
 pub record Refused-leaves : Type 0 where
   pub event : (w : List ℕ) (e : Event) (x : Refusal) (w′ : List ℕ) → Answers w e (Refused x) w′ → w′ ≡ w
   pub bytes : (buffer : List ℕ) (at : ℕ) (bytes buffer′ : List ℕ) → Puts buffer at bytes NoRoom buffer′ → buffer′ ≡ buffer
@@ -222,7 +231,8 @@ pub record Refused-leaves : Type 0 where
   pub c-run : (w journal l t : List ℕ) (n : ℕ) (w′ l′ t′ : List ℕ)
       → RunSays w journal l t n w′ l′ t′ → n / half ≢ 0 → (w′ ≡ w) × (l′ ≡ l) × (t′ ≡ t)
 
--- no second answer, and no second content of what is lent, keeps a promise: a claim for each shape
+-- no second answer, and no second content of what is lent, keeps a promise: a claim for each shape; an equation may be one of several, for
+-- the fields of an answer
 pub record Nothing-second : Type 1 where
   pub equation : One-answer
   pub start : Starts-unique
@@ -275,7 +285,8 @@ pub record Demand-2 : Type 0 where
   -- "and each accepted record is the only one for its event."
   pub only-one : Only-one
   pub reads-only : Reads-only
-  -- a run over a journal, piece by piece, writes its whole text, once; the paper's journal gives the output that the paper shows
+  -- runs over a journal, piece by piece, write its whole text, and one that is over and is called again carries out nothing; the paper's
+  -- journal gives the output that the paper shows
   pub runs-join : Runs-join
   pub runs-end : Runs-end
   pub next-fit : Next-fit
@@ -289,3 +300,10 @@ pub record Demand-3 : Type 0 where
 -- M1 to M10
 pub record Marked-sequences : Type 0 where
   pub marked-come : Marked-come
+
+-- All of it
+pub record All-demands : Type 2 where
+  pub first : Demand-1
+  pub second : Demand-2
+  pub third : Demand-3
+  pub marked : Marked-sequences

@@ -13,7 +13,7 @@ abbrev pub oneNumber : Answer → ℕ
 oneNumber r = refusalOf r * half + valueOf r
 
 -- n is the number of an answer that keeps a promise
-pub record Says (Keeps : Answer → Type 0) (n : ℕ) : Type 0 where
+pub record Says (Promised : Answer → Type 0) (n : ℕ) : Type 0 where
   pub answer : Answer
-  pub kept : Keeps answer
+  pub kept : Promised answer
   pub told : n ≡ oneNumber answer

@@ -1,4 +1,4 @@
--- Demand 3, sentence by sentence; its last field says of 15 what the paper says of 13.
+-- Demand 3, sentence by sentence; its last field says of 15 what the demand says of 13.
 use Prim.Native.Nat.{ℕ}
 use mathlib.Core.List.{List, [], _∷_, _++_}
 use mathlib.Core.Path.{_≡_}

@@ -109,7 +109,7 @@ ask c k b kind mask = changed c b (withCell (c .block b) k (goes (asked kind (st
 unfoldable pub live : Block → Message → Bool
 live B m = let x = B .cell (m .receiver) in waits (x .state) && sameNumber (x .awaits) (m .number)
 
--- "it takes the value and goes to 1, 2 or 2": also from 8, where "a move between two Load states" would keep the old one
+-- "it takes the value and goes to 1, 2 or 2": also from 8, where "A move between two Load states" would keep the old one
 abbrev pub takes : Message → Cell → Cell
 takes m x = aCell (filledTo (x .state)) (m .value) noNumber
 

@@ -17,7 +17,7 @@ use Rattle.rules.specs.declared.Event.{Event}
 use Rattle.words.specs.Layout.{allWords}
 use Rattle.words.specs.Words.{words, view, formed}
 
--- A chassis that words can say: its numbers fit their fields, and beyond the room there is it is as Start makes it
+-- A chassis that words can say: what is narrower than a word fits its field, and beyond the room there is it is as Start makes it
 
 pub record CellFits (x : Cell) : Type 0 where
   pub state : x .state < 2 ^ 8
