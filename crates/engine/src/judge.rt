@@ -114,7 +114,7 @@ fn impossible(home: Home, asker: u8, owner_state: u8, request: Request) -> bool
 
 // What comes of the request.
 fn turn_of(cards: u64, home: Home, asker: u8, request: Request) -> Turn
-    requires { ⌜ (cards ≤ mostCards) × (homeOrCard mostCards (home .owner) ≡ true) ⌝ }
+    requires { ⌜ (cards ≤ mostCards) × (request .card < mostCards) × (homeOrCard mostCards (home .owner) ≡ true) ⌝ }
     ensures { λ r. ⌜ ((B : Block) → HomeIs B home → B .cell (request .card) .state ≡ asker → r ≡ turn cards B request) ⌝ }
 {
     if request.kind == PUTX {

@@ -8,7 +8,7 @@ use rules::numbers::HOME;
 ghost use mathlib.Core.Path.{_≡_};
 ghost use mathlib.Core.Bool.{true, _||_};
 ghost use lib.Dec.{eqb};
-ghost use Prim.Native.Nat.{_≤_};
+ghost use Prim.Native.Nat.{_≤_, _<_};
 ghost use Rattle.rules.specs.Numbers.{mostCards, home};
 ghost use Rattle.rules.specs.Masks.{has};
 ghost use Rattle.rules.specs.Chassis.{Block};
@@ -18,7 +18,7 @@ ghost use Rattle.words.specs.Inner.Parts.{HomeIs};
 
 // The owner is home or named; GETX needs also every sharer other than the asker.
 pub(crate) fn suffices(cards: u64, home: Home, request: Request) -> bool
-    requires { ⌜ (cards ≤ mostCards) × (homeOrCard mostCards (home .owner) ≡ true) ⌝ }
+    requires { ⌜ (cards ≤ mostCards) × (request .card < mostCards) × (homeOrCard mostCards (home .owner) ≡ true) ⌝ }
     ensures { λ r. ⌜ ((B : Block) → HomeIs B home → r ≡ suffices cards B request) ⌝ }
 {
     if !owner_named(home.owner, request.mask) {
@@ -43,7 +43,7 @@ fn owner_named(owner: u8, mask: Mask) -> bool
 
 // The cards are walked one by one.
 fn sharers_named(cards: u64, sharers: Mask, request: Request) -> bool
-    requires { ⌜ cards ≤ mostCards ⌝ }
+    requires { ⌜ (cards ≤ mostCards) × (request .card < mostCards) ⌝ }
     ensures { λ r. ⌜ r ≡ sharersNamed cards sharers request ⌝ }
 {
     let mask = request.mask;

@@ -1,11 +1,10 @@
 -- The mask test as code does it: the owner first, then the sharers.
 use Prim.Native.Nat.{ℕ, _<_}
-use mathlib.Core.Bool.{Bool, true, false, not, _||_}
-use mathlib.Core.Path.{_≡_, refl, sym, _∙_, ap}
+use mathlib.Core.Bool.{Bool, true, false, _||_}
+use mathlib.Core.Path.{_≡_, sym, _∙_, ap}
 use mathlib.Core.Logic.{_≢_}
 use lib.Dec.{eqb}
 use borrow.Author.Tests.{eq-eqb, ne-eqb, ltb-true}
-use Rattle.rules.specs.Tests.{_⇒_}
 use Rattle.rules.specs.Masks.{has}
 use Rattle.rules.specs.Mask.{sharersNamed, suffices}
 use Rattle.rules.specs.Numbers.{mostCards, home, gets}
@@ -14,14 +13,6 @@ use Rattle.rules.specs.Formed.{homeOrCard}
 use Rattle.rules.specs.declared.Home.{Home}
 use Rattle.rules.specs.declared.Request.{Request}
 use Rattle.words.specs.Inner.Parts.{HomeIs}
-
--- the code's test of one sharer
-pub named-test : (a a′ b c c′ : Bool) → a ≡ a′ → c ≡ c′ → (not a || b || c) ≡ (a′ ⇒ b || c′)
-named-test a a′ b c c′ e f = rw (e, f) (go a′)
-  where
-    go : (t : Bool) → (not t || b || c′) ≡ (t ⇒ b || c′)
-    go true = refl
-    go false = refl
 
 -- The owner
 

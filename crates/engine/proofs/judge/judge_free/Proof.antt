@@ -49,6 +49,7 @@ turn-of-requires c κs =
     let c₈ = c .before .before .before .before .before .before .before .before in
     let c₉ = c₈ .before in (
       cards-few _ (c₉ .pre .0) _ (c .cards .ensures),
+      head-card _ (c₉ .pre .0) (c₉ .pre .1) _ (c₉ .pre .2),
       owner-there _ (c₉ .pre .0) (c₉ .pre .1) _ (c₉ .pre .2) _ (c₈ .home-at .ensures),
     )
 

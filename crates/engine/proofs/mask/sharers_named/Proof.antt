@@ -2,16 +2,23 @@
 use Prim.Native.Nat.{_-_, _≤_}
 use borrow.Author.Needs.{needs}
 use native.Mathlib.Omega.{arith}
-use mathlib.Core.Bool.{_||_}
-use mathlib.Core.Path.{_≡_}
+use mathlib.Core.Bool.{Bool, true, false, not, _||_}
+use mathlib.Core.Path.{_≡_, refl}
 use lib.Dec.{eqb}
 use Rattle.rules.specs.Tests.{_⇒_, all}
 use Rattle.rules.specs.Masks.{has}
 use Rattle.rules.specs.Mask.{sharersNamed}
 use Rattle.words.proofs.Checks.{all-none, all-more, all-done}
-use Rattle.words.proofs.Mask.{named-test}
 use Rattle.engine.proofs.mask.sharers_named.Statement.{statement}
 use Rattle.engine.proofs.mask.sharers_named.Tie as tie
+
+-- the code's test of one sharer
+named-test : (a a′ b c c′ : Bool) → a ≡ a′ → c ≡ c′ → (not a || b || c) ≡ (a′ ⇒ b || c′)
+named-test a a′ b c c′ e f = rw (e, f) (go a′)
+  where
+    go : (t : Bool) → (not t || b || c′) ≡ (t ⇒ b || c′)
+    go true = refl
+    go false = refl
 
 abbrev Inv-loop : tie.InvT-loop
 Inv-loop cards sharers mask asker named₀ card₀ named card =
