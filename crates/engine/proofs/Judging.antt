@@ -1,17 +1,15 @@
 -- What is decided of the head request: the tests that walk the cards, and each way that the decision ends.
 use Prim.Native.Nat.{ℕ, _≤_, _<_}
 use native.Mathlib.Omega.{arith}
-use mathlib.Core.Bool.{Bool, true, false, cond, not, _&&_, _||_}
+use mathlib.Core.Bool.{Bool, true, false, not, _&&_, _||_}
 use mathlib.Core.List.{List, [], _∷_}
 use mathlib.Core.Path.{_≡_, refl, sym, _∙_, ap}
-use mathlib.Core.Logic.{_≢_}
 use lib.Dec.{eqb, leb}
-use borrow.Author.Tests.{ne-eqb, ltb-true, eq-eqb, lt-ltb, le-leb, lt-leb}
+use borrow.Author.Tests.{ltb-true, lt-ltb, le-leb, lt-leb}
 use Rattle.rules.specs.Tests.{any}
-use Rattle.rules.specs.Mask.{suffices}
-use Rattle.rules.specs.Numbers.{mostCards, mostBlocks, home, room, lastNumber, gets, putx}
+use Rattle.rules.specs.Numbers.{mostCards, mostBlocks, home, room, lastNumber, putx}
 use Rattle.rules.specs.Table.{canGive, comesFrom, putStands}
-use Rattle.rules.specs.Chassis.{Block, idle, cellOf, unusedRequest}
+use Rattle.rules.specs.Chassis.{Block, idle, cellOf, stateOf, unusedRequest}
 use Rattle.rules.specs.Formed.{homeOrCard, okRequest}
 use Rattle.rules.specs.Order.{held, impossible, noRoomFor, turn}
 use Rattle.rules.specs.declared.OrderNo.{OrderNo}
@@ -23,7 +21,6 @@ use Rattle.rules.specs.declared.Turn.{Turn}
 use Rattle.rules.specs.declared.Refusal.the-variants.{BlockHeld, PoolFull, NumbersSpent, Impossible}
 use Rattle.engine.specs.declared.judge.Judged.{Judged}
 use Rattle.engine.specs.declared.judge.Judged.the-variants.{No, Yes}
-use Rattle.rules.specs.declared.Turn.the-variants.{GetsGranted, GetxGranted, GetsMissed, GetxMissed, PutTaken, PutLapsed}
 use Rattle.rules.proofs.Tests.{or-i}
 use Rattle.rules.proofs.Lists.{All-at}
 use Rattle.rules.proofs.Formed.{RequestWf, request→, BlockWf}
@@ -74,22 +71,6 @@ pub impossible-test : (h : Home) (asker owner : ℕ) (r : Request) (stands from 
 unfolding impossible
 impossible-test h asker owner r stands from can e₁ e₂ e₃ B is ea eo =
     rw (e₁, e₂, e₃, ← is .owner, ← ea, ← eo) (or-any _ _ _ _ _)
-
--- The turn
-
-module _ (cards asker : ℕ) (r : Request) (B : Block) (a : B .cell (r .card) .state ≡ asker) where
-  pub put-turn : r .kind ≡ putx → (stands : Bool) → putStands asker ≡ stands → cond stands PutTaken PutLapsed ≡ turn cards B r
-  unfolding turn
-  put-turn e stands h = rw (eq-eqb (r .kind) putx e, a, h)
-
-  pub get-turn : r .kind ≢ putx → (enough is-gets : Bool) → enough ≡ suffices cards B r → is-gets ≡ eqb (r .kind) gets
-      → cond enough (cond is-gets GetsGranted GetxGranted) (cond is-gets GetsMissed GetxMissed) ≡ turn cards B r
-  unfolding turn
-  get-turn n enough is-gets e g = rw (ne-eqb (r .kind) putx n, e, g)
-
--- so many cards, as they are read
-pub cards-few : (w : List ℕ) → formed w ≡ true → (cards : ℕ) → cards ≡ cardsOf w → cards ≤ mostCards
-cards-few w f cards e = let s = sizes w f .few-cards in omega arith
 
 -- The head request
 
@@ -166,11 +147,11 @@ module _ (w : List ℕ) (f : formed w ≡ true) (some : 0 < waitingOf w) (r : Re
       unfolding judgedFree
       free-full t = rw (← impossible-is, n, ← full-is, t)
 
-      pub free-turn : (not (eqb (r .kind) putx) && leb room pool) ≡ false → (cards : ℕ) → cards ≡ cardsOf w
-          → (t : Turn) → ((B : Block) → HomeIs B h → B .cell (r .card) .state ≡ x .state → t ≡ turn cards B r) → Yes t ≡ judgedFree (view w) r
-      unfolding judgedFree view
-      free-turn f cards ec t et = rw (← impossible-is, n, ← full-is, f)
-          (ap Yes (et (view w .block (r .block)) (home-is h is) asker-state ∙ ap (λ k. turn k (view w .block (r .block)) r) ec))
+      pub free-turn : (not (eqb (r .kind) putx) && leb room pool) ≡ false
+          → (t : Turn) → (HomeIs (view w .block (r .block)) h → stateOf (view w) (r .card) (r .block) ≡ x .state → t ≡ turn (view w) r)
+          → Yes t ≡ judgedFree (view w) r
+      unfolding judgedFree
+      free-turn f t et = rw (← impossible-is, n, ← full-is, f) (ap Yes (et (home-is h is) asker-state))
 
   -- Refusals 12 and 9 come first
 

@@ -2,17 +2,16 @@
 use Prim.Native.Nat.{ℕ, zero, suc, _+_, _≤_, _<_}
 use native.Mathlib.Numerals.{add-one}
 use native.Mathlib.Omega.{arith}
-use mathlib.Core.Bool.{true, false, true≢false}
+use mathlib.Core.Bool.{true, true≢false}
 use mathlib.Core.List.{List, [], _∷_, _++_}
 use mathlib.Core.Path.{_≡_, refl, sym, _∙_, ap, subst, fun-ext}
 use mathlib.Core.Logic.{_≢_, inl, inr}
 use lib.ListN.{length, getD, set}
-use lib.Dec.{eqb, leb, ltb}
+use lib.Dec.{leb, ltb}
 use borrow.Author.Tests.{leb-false, ltb-true, ltb-false}
 use Rattle.rules.specs.Answers.{FirstHolds, NoneHolds}
 use Rattle.rules.specs.Lists.{removed}
-use Rattle.rules.specs.Numbers.{mostCards, room, orderNo, lastNumber, nextNumber, upToNumber, putx, granted}
-use Rattle.rules.specs.Table.{putStands}
+use Rattle.rules.specs.Numbers.{mostCards, room, orderNo, lastNumber, nextNumber, upToNumber, granted}
 use Rattle.rules.specs.Chassis.{
   Block,
   Chassis,
@@ -54,7 +53,7 @@ use Rattle.rules.specs.declared.Turn.the-variants.{PutLapsed}
 use Rattle.rules.specs.declared.Event.the-variants.{Order}
 use Rattle.rules.proofs.Tests.{test}
 use Rattle.rules.proofs.Lists.{replace-same, replace-twice}
-use Rattle.rules.proofs.Turns.{sees-cases}
+use Rattle.rules.proofs.Upshots.{grant-no-put, cell-sees}
 use Rattle.rules.proofs.Formed.{unused-idle}
 use Rattle.engine.specs.declared.judge.Judged.{Judged}
 use Rattle.engine.specs.declared.judge.Judged.the-variants.{No, Yes}
@@ -80,7 +79,7 @@ use Rattle.engine.specs.Inner.Ordering.{judgedFree, judged}
 use Rattle.words.proofs.View.{formed-words, view-block, view-cell, waiting-is, cards-of, waiting-of, pooled-of}
 use Rattle.words.proofs.Changes.{home-words, last-words}
 use Rattle.words.proofs.Does.{refused, done, sizes}
-use Rattle.words.proofs.Keeps.{owner-moves, reader-moves}
+use Rattle.words.proofs.Keeps.{idle-sees}
 use Rattle.engine.proofs.Judging.{head-is, head-wf, head-block, home-is, owner-is, asker-is, block-wf}
 use Rattle.words.proofs.Seeing.{Seen}
 
@@ -124,7 +123,7 @@ module _ (c : Chassis) (r : Request) (rest : List Request) where
       ))
 
   judged-yes : (t : Turn) → Yes t ≡ judged c r
-      → NoneHolds (orderReasons c (r ∷ rest)) × (t ≡ turn (c .cards) (c .block (r .block)) r)
+      → NoneHolds (orderReasons c (r ∷ rest)) × (t ≡ turn c r)
   unfolding judged judgedFree orderReasons
   judged-yes t e = test (upToNumber lastNumber (c .last))
       (λ p. absurd (no≢yes _ _ (sym (rw p at e))))
@@ -135,15 +134,6 @@ module _ (c : Chassis) (r : Request) (rest : List Request) where
       (λ i. test (noRoomFor c r)
       (λ f. absurd (no≢yes _ _ (sym (rw (p, q, i, f) at e))))
       (λ f. ((p, (q, (i, (f, tt)))), ap turned (rw (p, q, i, f) at e))))))
-
--- a grant is none of a put
-grant-no-put : (cards : ℕ) (B : Block) (r : Request) → upshotOf (turn cards B r) .outcome ≡ granted → eqb (r .kind) putx ≡ false
-unfolding turn upshotOf
-grant-no-put cards B r h = test (eqb (r .kind) putx)
-    (λ e. test (putStands (B .cell (r .card) .state))
-    (λ s. absurd (let g = rw (e, s) at h in omega arith))
-    (λ s. absurd (let g = rw (e, s) at h in omega arith)))
-    (λ e. e)
 
 -- a list that is not empty has a head
 headed : {A : Type 0} (l : List A) (d : A) → 0 < length l → l ≡ getD l 0 d ∷ removed 0 l
@@ -183,7 +173,7 @@ module _ (w : List ℕ) (f : formed w ≡ true) (some : 0 < waitingOf w) (r : Re
   -- The turn
 
   module _ (t : Turn) (et : Yes t ≡ judged (view w) r) where
-    decided : NoneHolds (orderReasons (view w) (r ∷ rest)) × (t ≡ turn (view w .cards) (view w .block (r .block)) r)
+    decided : NoneHolds (orderReasons (view w) (r ∷ rest)) × (t ≡ turn (view w) r)
     decided = judged-yes (view w) r rest t et
 
     -- there is a next number
@@ -206,11 +196,9 @@ module _ (w : List ℕ) (f : formed w ≡ true) (some : 0 < waitingOf w) (r : Re
         (let i = idle-beyond k (ltb-false k (view w .cards) e) in
         let B = view w .block (r .block) in
         let x = B .cell k in
-        sees-cases (λ y. x ≡ y) t B r n k
+        cell-sees (λ y. x ≡ y) t B r n k
         (λ a. absurd (let q = head-wf w f some r at .card in let l = ltb-false k (view w .cards) e in omega arith))
-        (λ _ _. i ∙ sym (owner-moves t x .idles i))
-        (λ _ _ _. i ∙ sym (reader-moves t x .idles i))
-        (λ _ _ _. refl))))
+        refl (λ g col. i ∙ sym (idle-sees g col x i)))))
 
     module _ (h : Home) (is : (h .memory ≡ memoryAt w (r .block)) × (h .owner ≡ ownerAt w (r .block)) × (h .sharers ≡ sharersAt w (r .block)))
         (x : Cell) (ex : x ≡ cellAt w (r .card) (r .block)) (y : Cell) (ey : y ≡ view w .block (r .block) .cell (h .owner))
@@ -248,7 +236,7 @@ module _ (w : List ℕ) (f : formed w ≡ true) (some : 0 < waitingOf w) (r : Re
       unfolding c₂ orderReasons noRoomFor
       grant-room g =
           let p = pooled-of c₂ w₂ block-words in
-          let k = grant-no-put (view w .cards) (view w .block (r .block)) r (ap (λ t. upshotOf t .outcome) (sym (decided .1)) ∙ g) in
+          let k = grant-no-put (view w) r (ap (λ t. upshotOf t .outcome) (sym (decided .1)) ∙ g) in
           let l = leb-false room (length (view w .pool)) (rw k at (decided .0 .1 .1 .1 .0)) in
           omega arith
 
@@ -308,4 +296,4 @@ module _ (w : List ℕ) (f : formed w ≡ true) (some : 0 < waitingOf w) (r : Re
               (subst (λ (l : List Request). NoneHolds (orderReasons c l)) (sym head-line) (decided .0))
               (subst (λ (l : List Request). Done v ≡ order c l .answer) (sym head-line) (ap Done (ev ∙ ap (λ t. upshotOf t .outcome) (decided .1))))
               (subst (λ (l : List Request). w₅ ≡ words (order c l .after)) (sym head-line)
-              (after ∙ ap (λ (t : Turn). gone t n) (decided .1) ∙ ap (gone (turn (c .cards) B r)) next))
+              (after ∙ ap (λ (t : Turn). gone t n) (decided .1) ∙ ap (gone (turn c r)) next))

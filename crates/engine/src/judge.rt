@@ -22,7 +22,7 @@ ghost use mathlib.Core.Path.{_≡_};
 ghost use mathlib.Core.Bool.{true};
 ghost use Prim.Native.Nat.{_≤_, _<_};
 ghost use Rattle.rules.specs.Numbers.{mostCards, mostBlocks};
-ghost use Rattle.rules.specs.Chassis.{Block};
+ghost use Rattle.rules.specs.Chassis.{Block, stateOf};
 ghost use Rattle.rules.specs.Order.{held, impossible, turn};
 ghost use Rattle.rules.specs.Formed.{homeOrCard};
 ghost use Rattle.words.specs.Words.{view, cardsOf, waitingOf, requestAt, formed};
@@ -66,7 +66,7 @@ fn judge_free(s: &[u64; WORDS], request: Request) -> Judged
     if (request.kind != PUTX) & ((ROOM as u64) <= pooled(s)) {
         return Judged::No(Refusal::PoolFull);
     }
-    Judged::Yes(turn_of(cards(s), home, asker.state, request))
+    Judged::Yes(turn_of(s, home, asker.state, request))
 }
 
 // Some card waits for data of this block.
@@ -112,10 +112,11 @@ fn impossible(home: Home, asker: u8, owner_state: u8, request: Request) -> bool
         | (is_put & !stands & owns)
 }
 
-// What comes of the request.
-fn turn_of(cards: u64, home: Home, asker: u8, request: Request) -> Turn
-    requires { ⌜ (cards ≤ mostCards) × (request .card < mostCards) × (homeOrCard mostCards (home .owner) ≡ true) ⌝ }
-    ensures { λ r. ⌜ ((B : Block) → HomeIs B home → B .cell (request .card) .state ≡ asker → r ≡ turn cards B request) ⌝ }
+// What comes of the request, with home's part of its block and the asker's state as they were read.
+fn turn_of(s: &[u64; WORDS], home: Home, asker: u8, request: Request) -> Turn
+    requires { ⌜ (cardsOf (now s) ≤ mostCards) × (request .card < mostCards) × (homeOrCard mostCards (home .owner) ≡ true) ⌝ }
+    ensures { λ r. ⌜ (HomeIs (view (now (s .entry)) .block (request .block)) home
+        → stateOf (view (now (s .entry))) (request .card) (request .block) ≡ asker → r ≡ turn (view (now (s .entry))) request) ⌝ }
 {
     if request.kind == PUTX {
         if table::put_stands(asker) {
@@ -124,7 +125,7 @@ fn turn_of(cards: u64, home: Home, asker: u8, request: Request) -> Turn
         return Turn::PutLapsed;
     }
     let gets = request.kind == GETS;
-    if suffices(cards, home, request) {
+    if suffices(cards(s), home, request) {
         if gets {
             Turn::GetsGranted
         } else {

@@ -13,6 +13,7 @@ use crate::sees::cards_see;
 use crate::turns::given;
 use crate::turns::home_after;
 use crate::turns::line_after;
+use crate::turns::outcome_no;
 use crate::turns::pool_after;
 use rules::Answer;
 use rules::Message;
@@ -20,15 +21,10 @@ use rules::OrderNo;
 use rules::Refusal;
 use rules::Request;
 use rules::Turn;
-use rules::numbers::GRANTED;
-use rules::numbers::PUT_LAPSED;
-use rules::numbers::PUT_TAKEN;
-use rules::numbers::TOO_SMALL;
 use words::layout::WORDS;
 ghost use mathlib.Core.Path.{_≡_};
 ghost use mathlib.Core.Bool.{true};
 ghost use Prim.Native.Nat.{_<_};
-ghost use Rattle.rules.specs.Order.{upshotOf};
 ghost use Rattle.rules.specs.declared.Event.the-variants.{Order};
 ghost use Rattle.engine.specs.declared.judge.Judged.the-variants.{Yes};
 ghost use Rattle.words.specs.Words.{view, waitingOf, requestAt, formed};
@@ -76,16 +72,4 @@ fn take_turn(s: &mut [u64; WORDS], request: Request, turn: Turn) -> Answer
     line_after(s, turn, home, request);
     set_last(s, number);
     Answer::Done(outcome_no(turn))
-}
-
-// The outcome that Order answers.
-fn outcome_no(turn: Turn) -> u32
-    ensures { λ r. ⌜ r ≡ upshotOf turn .outcome ⌝ }
-{
-    match turn {
-        Turn::GetsGranted | Turn::GetxGranted => GRANTED,
-        Turn::GetsMissed | Turn::GetxMissed => TOO_SMALL,
-        Turn::PutTaken => PUT_TAKEN,
-        Turn::PutLapsed => PUT_LAPSED,
-    }
 }

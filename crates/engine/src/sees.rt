@@ -5,10 +5,13 @@ use crate::fields::cell_at;
 use crate::fields::idle;
 use crate::fields::put_cell;
 use crate::masks::has;
+use crate::turns::outcome_no;
 use rules::Cell;
 use rules::OrderNo;
 use rules::Request;
 use rules::Turn;
+use rules::numbers::GRANTED;
+use rules::numbers::TOO_SMALL;
 use rules::table;
 use words::layout::WORDS;
 ghost use mathlib.Core.Path.{_≡_};
@@ -24,14 +27,10 @@ ghost use Rattle.words.specs.Inner.Parts.{seenBelow};
 fn asker_sees(turn: Turn, number: OrderNo, cell: Cell) -> Cell
     ensures { λ r. ⌜ r ≡ upshotOf turn .askerSees number cell ⌝ }
 {
-    match turn {
-        Turn::GetsGranted | Turn::GetxGranted => goes_for(
-            number,
-            table::granted_to(cell.state),
-            cell,
-        ),
-        Turn::GetsMissed | Turn::GetxMissed => cell,
-        Turn::PutTaken | Turn::PutLapsed => idle(),
+    match outcome_no(turn) {
+        GRANTED => goes_for(number, table::granted_to(cell.state), cell),
+        TOO_SMALL => cell,
+        _ => idle(),
     }
 }
 

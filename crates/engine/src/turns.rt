@@ -1,4 +1,4 @@
-// What a turn does beside the cards' parts: home's part, the message, the line.
+// What a turn does beside the cards' parts: its outcome, home's part, the message, the line.
 use crate::fields::cards;
 use crate::lists::push_message;
 use crate::lists::push_request;
@@ -13,8 +13,12 @@ use rules::Message;
 use rules::Request;
 use rules::RetryNo;
 use rules::Turn;
+use rules::numbers::GRANTED;
 use rules::numbers::HOME;
 use rules::numbers::LAST_RETRY;
+use rules::numbers::PUT_LAPSED;
+use rules::numbers::PUT_TAKEN;
+use rules::numbers::TOO_SMALL;
 use words::layout::WORDS;
 ghost use mathlib.Core.Path.{_≡_};
 ghost use mathlib.Core.Bool.{true};
@@ -24,11 +28,24 @@ ghost use Rattle.rules.specs.Lists.{removed};
 ghost use Rattle.rules.specs.Numbers.{mostCards, room, lastRetry, granted};
 ghost use Rattle.rules.specs.Chassis.{Block, Chassis, lineChanged, poolChanged};
 ghost use Rattle.rules.specs.Formed.{homeOrCard};
-ghost use Rattle.rules.specs.Order.{given, upshotOf, dataFor, retryMask, retried};
+ghost use Rattle.rules.specs.Order.{given, sharersWith, upshotOf, dataFor, retryMask, retried};
 ghost use Rattle.rules.specs.declared.OrderNo.{OrderNo};
-ghost use Rattle.rules.specs.declared.Turn.the-variants.{GetsGranted};
 ghost use Rattle.words.specs.Words.{words, cardsOf, waitingOf, pooledOf};
 ghost use Rattle.words.specs.Inner.Parts.{HomeIs, HomeAfter};
+
+// The outcome
+
+// The outcome that Order answers.
+pub(crate) fn outcome_no(turn: Turn) -> u32
+    ensures { λ r. ⌜ r ≡ upshotOf turn .outcome ⌝ }
+{
+    match turn {
+        Turn::GetsGranted | Turn::GetxGranted => GRANTED,
+        Turn::GetsMissed | Turn::GetxMissed => TOO_SMALL,
+        Turn::PutTaken => PUT_TAKEN,
+        Turn::PutLapsed => PUT_LAPSED,
+    }
+}
 
 // Home's part
 
@@ -46,7 +63,7 @@ pub(crate) fn given(home: Home, owner: Cell) -> u32
 // The sharers after a GETS that is granted: a card that owned, or else those there were, and the asker.
 fn sharers_with(home: Home, asker: u8) -> Mask
     requires { ⌜ (asker < mostCards) × (homeOrCard mostCards (home .owner) ≡ true) ⌝ }
-    ensures { λ r. ⌜ ((B : Block) → HomeIs B home → r ≡ upshotOf GetsGranted .sharers B asker) ⌝ }
+    ensures { λ r. ⌜ ((B : Block) → HomeIs B home → r ≡ sharersWith B asker) ⌝ }
 {
     if home.owner == HOME {
         union(home.sharers, only(asker))
@@ -89,9 +106,8 @@ pub(crate) fn pool_after(s: &mut [u64; WORDS], turn: Turn, message: Message)
     ensures { λ _. ⌜ ((c : Chassis) (B : Block) → now (s .entry) ≡ words c → ((request : Request) (n : OrderNo) → dataFor B request n ≡ message
         → now (s .exit) ≡ words (poolChanged c (c .pool ++ upshotOf turn .sent B request n)))) ⌝ }
 {
-    match turn {
-        Turn::GetsGranted | Turn::GetxGranted => push_message(s, message),
-        _ => {}
+    if outcome_no(turn) == GRANTED {
+        push_message(s, message);
     }
 }
 
@@ -136,8 +152,7 @@ pub(crate) fn line_after(s: &mut [u64; WORDS], turn: Turn, home: Home, request: 
 {
     let next = retried(cards(s), home, request);
     remove_request(s, 0);
-    match turn {
-        Turn::GetsMissed | Turn::GetxMissed => push_request(s, next),
-        _ => {}
+    if outcome_no(turn) == TOO_SMALL {
+        push_request(s, next);
     }
 }

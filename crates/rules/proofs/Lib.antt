@@ -10,6 +10,7 @@ pub mod Invariant
 pub mod States
 pub mod Blocks
 pub mod Holders
+pub mod Upshots
 pub mod Turns
 pub mod Unique
 pub mod Refusals

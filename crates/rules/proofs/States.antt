@@ -112,35 +112,30 @@ pub getx-calm : (s : ℕ) → s < states → (isReader s || stores s) ≡ true �
 unfolding all each isReader stores calm seesGetx owns shares waits
 getx-calm s l p = calm→ (seesGetx s) (imp (all-elim states (λ s. isReader s || stores s ⇒ calm (seesGetx s)) refl s l) p)
 
--- an idle cell sees nothing
-pub gets-idle : seesGets I ≡ I
-unfolding seesGets
-gets-idle = refl
+-- A column of what is seen: an idle cell sees nothing, and what a state without data on its way sees leads to no such state
 
-pub getx-idle : seesGetx I ≡ I
-unfolding seesGetx
-getx-idle = refl
+pub record Column (f : ℕ → ℕ) : Type 0 where
+  pub idle : f I ≡ I
+  pub code : (s : ℕ) → s < states → waits s ≡ false → f s < states
+  pub waits-not : (s : ℕ) → s < states → waits s ≡ false → waits (f s) ≡ false
 
--- what a state without data on its way sees leads to no such state
-pub record Quiet (s : ℕ) : Type 0 where
-  pub code : s < states
-  pub waits-not : waits s ≡ false
+column : (f : ℕ → ℕ) → f I ≡ I → all states (λ s. not (waits s) ⇒ ltb (f s) states && not (waits (f s))) ≡ true → Column f
+column f i h =
+    let at : (s : ℕ) → s < states → waits s ≡ false → (ltb (f s) states && not (waits (f s))) ≡ true
+    = λ s l p. imp (all-elim states (λ s. not (waits s) ⇒ ltb (f s) states && not (waits (f s))) h s l) (fails p) in
+    record {
+      idle = i;
+      code = λ s l p. ltb-true (f s) states (and-l (ltb (f s) states) (not (waits (f s))) (at s l p));
+      waits-not = λ s l p. not-true (waits (f s)) (and-r (ltb (f s) states) (not (waits (f s))) (at s l p));
+    }
 
-quiet→ : (f : ℕ → ℕ) (s : ℕ) → (ltb (f s) states && not (waits (f s))) ≡ true → Quiet (f s)
-quiet→ f s h = record {
-  code = ltb-true (f s) states (and-l (ltb (f s) states) (not (waits (f s))) h);
-  waits-not = not-true (waits (f s)) (and-r (ltb (f s) states) (not (waits (f s))) h);
-}
-
-pub gets-quiet : (s : ℕ) → s < states → waits s ≡ false → Quiet (seesGets s)
+pub gets-column : Column seesGets
 unfolding all waits seesGets
-gets-quiet s l p = quiet→ seesGets s
-    (imp (all-elim states (λ s. not (waits s) ⇒ ltb (seesGets s) states && not (waits (seesGets s))) refl s l) (fails p))
+gets-column = column seesGets refl refl
 
-pub getx-quiet : (s : ℕ) → s < states → waits s ≡ false → Quiet (seesGetx s)
+pub getx-column : Column seesGetx
 unfolding all waits seesGetx
-getx-quiet s l p = quiet→ seesGetx s
-    (imp (all-elim states (λ s. not (waits s) ⇒ ltb (seesGetx s) states && not (waits (seesGetx s))) refl s l) (fails p))
+getx-column = column seesGetx refl refl
 
 -- An owner that sees GETS
 

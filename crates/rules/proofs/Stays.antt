@@ -1,8 +1,8 @@
 -- A well formed state stays well formed under every event.
 use Prim.Native.Nat.{ℕ, suc, _+_, _≤_, _<_}
 use native.Mathlib.Omega.{arith}
-use mathlib.Core.Bool.{Bool, true, false, cond, not, _&&_, _||_, true≢false}
-use mathlib.Core.List.{List, [], _∷_, _++_, append-nil}
+use mathlib.Core.Bool.{Bool, true, false, not, _&&_, _||_, true≢false}
+use mathlib.Core.List.{List, [], _∷_, _++_}
 use mathlib.Core.Path.{_≡_, refl, sym, subst}
 use lib.ListN.{length, length-append}
 use lib.Dec.{eqb, leb}
@@ -25,20 +25,11 @@ use Rattle.rules.specs.Numbers.{
   upToRetry,
   gets,
   putx,
+  granted,
+  tooSmall,
   none,
 }
-use Rattle.rules.specs.Table.{
-  loads,
-  stores,
-  waits,
-  isReader,
-  asked,
-  comesFrom,
-  putStands,
-  grantedTo,
-  seesGets,
-  seesGetx,
-}
+use Rattle.rules.specs.Table.{loads, stores, waits, asked, comesFrom, grantedTo}
 use Rattle.rules.specs.Chassis.{
   Block,
   Chassis,
@@ -91,14 +82,6 @@ use Rattle.rules.specs.Claims.{Stays-formed}
 use Rattle.rules.specs.declared.OrderNo.{OrderNo}
 use Rattle.rules.specs.declared.Cell.{Cell}
 use Rattle.rules.specs.declared.Turn.{Turn}
-use Rattle.rules.specs.declared.Turn.the-variants.{
-  GetsGranted,
-  GetxGranted,
-  GetsMissed,
-  GetxMissed,
-  PutTaken,
-  PutLapsed,
-}
 use Rattle.rules.specs.declared.Request.{Request}
 use Rattle.rules.specs.declared.Message.{Message}
 use Rattle.rules.specs.declared.Event.{Event}
@@ -123,10 +106,10 @@ use Rattle.rules.proofs.Masks.{
   none-inside,
 }
 use Rattle.rules.proofs.Mask.{every-suffices}
-use Rattle.rules.proofs.States.{state, gets-quiet, getx-quiet, filled, asking, asks}
+use Rattle.rules.proofs.States.{state, filled, asking, asks}
 use Rattle.rules.proofs.Refusals.{refused-cases}
 use Rattle.rules.proofs.Steps.{live-waits}
-use Rattle.rules.proofs.Turns.{sees-cases}
+use Rattle.rules.proofs.Upshots.{by-outcome, grant-no-put, miss-too-small, owner-cases, sharers-cases, cell-sees}
 use Rattle.rules.proofs.Formed.{
   CellWf,
   goesFor-wf,
@@ -156,52 +139,6 @@ use Rattle.rules.proofs.Formed.{
 -- the next order number is not 0
 next-numbered : (n : OrderNo) → not (sameNumber (nextNumber n) noNumber) ≡ true
 next-numbered n = rw (ne-eqb (suc (n .0)) 0 (omega arith))
-
--- Cells that see a request
-
-owner-wf : (t : Turn) (n : OrderNo) (x : Cell) → CellWf n x → waits (x .state) ≡ false → CellWf n (upshotOf t .ownerSees x)
-unfolding upshotOf
-owner-wf GetsGranted n x h f = let q = gets-quiet (x .state) (h .code) f in goes-wf n (seesGets (x .state)) x (q .code) (q .waits-not)
-owner-wf GetxGranted n x h f = let q = getx-quiet (x .state) (h .code) f in goes-wf n (seesGetx (x .state)) x (q .code) (q .waits-not)
-owner-wf GetsMissed n x h f = h
-owner-wf GetxMissed n x h f = h
-owner-wf PutTaken n x h f = h
-owner-wf PutLapsed n x h f = h
-
-moved-wf : (n : OrderNo) (x : Cell) → CellWf n x → waits (x .state) ≡ false
-    → CellWf n (cond (isReader (x .state)) (goes (seesGetx (x .state)) x) x)
-moved-wf n x h f =
-    let q = getx-quiet (x .state) (h .code) f in
-    cond-cases (CellWf n) (isReader (x .state)) (goes (seesGetx (x .state)) x) x
-    (λ _. goes-wf n (seesGetx (x .state)) x (q .code) (q .waits-not)) (λ _. h)
-
-reader-wf : (t : Turn) (n : OrderNo) (x : Cell) → CellWf n x → waits (x .state) ≡ false → CellWf n (upshotOf t .readerSees x)
-unfolding upshotOf
-reader-wf GetsGranted n x h f = h
-reader-wf GetxGranted n x h f = moved-wf n x h f
-reader-wf GetsMissed n x h f = h
-reader-wf GetxMissed n x h f = moved-wf n x h f
-reader-wf PutTaken n x h f = h
-reader-wf PutLapsed n x h f = h
-
--- an idle cell sees nothing
-owner-idle : (t : Turn) → upshotOf t .ownerSees idle ≡ idle
-unfolding upshotOf seesGets seesGetx loads
-owner-idle GetsGranted = refl
-owner-idle GetxGranted = refl
-owner-idle GetsMissed = refl
-owner-idle GetxMissed = refl
-owner-idle PutTaken = refl
-owner-idle PutLapsed = refl
-
-reader-idle : (t : Turn) → upshotOf t .readerSees idle ≡ idle
-unfolding upshotOf isReader
-reader-idle GetsGranted = refl
-reader-idle GetxGranted = refl
-reader-idle GetsMissed = refl
-reader-idle GetxMissed = refl
-reader-idle PutTaken = refl
-reader-idle PutLapsed = refl
 
 -- A block that is not there stays as it is when a card rejoins
 
@@ -393,60 +330,38 @@ module _ {c : Chassis} (w : Wf c) where
     -- every card's cell
     seen-wf : (t : Turn) → CellWf Next (upshotOf t .askerSees Next (cellOf c (r .card) (r .block)))
         → (k : ℕ) → k < mostCards → Place (c .cards) Next k (sees t Head r Next k)
+    unfolding loads
     seen-wf t asker k k8 =
         let x = Head .cell k in
         let pl = block-ok .places k k8 in
         let card = asks-ok .card in
         record {
-          used = λ k<. let y = grow (c .last) Next x (omega arith) (pl .used k<) in
-              sees-cases (CellWf Next) t Head r Next k
+          used = λ k<. let y = pl .used k< in
+              cell-sees (CellWf Next) t Head r Next k
               (λ e. subst (λ i. CellWf Next (upshotOf t .askerSees Next (Head .cell i))) e asker)
-              (λ _ _. owner-wf t Next x y (free k k<)) (λ _ _ _. reader-wf t Next x y (free k k<)) (λ _ _ _. y);
+              (grow (c .last) Next x (omega arith) y)
+              (λ f col. goes-wf Next (f (x .state)) x (col .code (x .state) (y .code) (free k k<)) (col .waits-not (x .state) (y .code) (free k k<)));
           unused = λ ge. let e = unused-idle x (pl .unused ge) in
-              sees-cases (λ y. unusedCell y ≡ true) t Head r Next k
-              (λ f. absurd (omega arith))
-              (λ _ _. subst (λ y. unusedCell (upshotOf t .ownerSees y) ≡ true) (sym e) (rw (owner-idle t) idle-unused))
-              (λ _ _ _. subst (λ y. unusedCell (upshotOf t .readerSees y) ≡ true) (sym e) (rw (reader-idle t) idle-unused))
-              (λ _ _ _. pl .unused ge);
+              cell-sees (λ y. unusedCell y ≡ true) t Head r Next k (λ f. absurd (omega arith)) (pl .unused ge)
+              (λ f col. subst (λ y. unusedCell (goes (f (y .state)) y) ≡ true) (sym e) (rw (col .idle) idle-unused));
         }
 
     -- home's part
     owner-in : (t : Turn) → homeOrCard (c .cards) (upshotOf t .owner Head (r .card)) ≡ true
-    unfolding upshotOf homeOrCard
-    owner-in GetsGranted = refl
-    owner-in GetxGranted = or-i {a = eqb (r .card) home} (λ _. lt-ltb (r .card) (c .cards) (asks-ok .card))
-    owner-in GetsMissed = block-ok .owner
-    owner-in GetxMissed = block-ok .owner
-    owner-in PutTaken = refl
-    owner-in PutLapsed = block-ok .owner
+    unfolding homeOrCard
+    owner-in t = owner-cases (λ y. homeOrCard (c .cards) y ≡ true) t Head (r .card) (block-ok .owner) refl
+        (or-i {a = eqb (r .card) home} (λ _. lt-ltb (r .card) (c .cards) (asks-ok .card)))
 
     sharers-in : (t : Turn) → inside (c .cards) (upshotOf t .sharers Head (r .card)) ≡ true
-    unfolding upshotOf
-    sharers-in GetsGranted = union-inside (c .cards) _ (only (r .card))
-        (cond-cases (λ y. inside (c .cards) y ≡ true) (eqb (Head .owner) home) (Head .sharers) (only (Head .owner))
-        (λ _. block-ok .sharers) (λ e. only-inside (c .cards) (Head .owner) (owner-card e)))
-        (only-inside (c .cards) (r .card) (asks-ok .card))
-    sharers-in GetxGranted = none-inside (c .cards)
-    sharers-in GetsMissed = block-ok .sharers
-    sharers-in GetxMissed = block-ok .sharers
-    sharers-in PutTaken = none-inside (c .cards)
-    sharers-in PutLapsed = block-ok .sharers
+    sharers-in t = sharers-cases (λ y. inside (c .cards) y ≡ true) t Head (r .card) (union-inside (c .cards)) (block-ok .sharers) (none-inside (c .cards))
+        (λ e. only-inside (c .cards) (Head .owner) (owner-card e)) (only-inside (c .cards) (r .card) (asks-ok .card))
 
     -- the line and the pool
     line-fits : (t : Turn) → length (rest ++ upshotOf t .again (c .cards) Head r) ≤ room
-    unfolding upshotOf
-    line-fits t = rw (length-append rest (upshotOf t .again (c .cards) Head r)) (go t)
-      where
-        fits : suc (length rest) ≤ room
-        fits = subst (λ l. length l ≤ room) at (w .line-room)
-
-        go : (t : Turn) → length rest + length (upshotOf t .again (c .cards) Head r) ≤ room
-        go GetsGranted = let z = fits in omega arith
-        go GetxGranted = let z = fits in omega arith
-        go GetsMissed = let z = fits in omega arith
-        go GetxMissed = let z = fits in omega arith
-        go PutTaken = let z = fits in omega arith
-        go PutLapsed = let z = fits in omega arith
+    line-fits t =
+        let fits : suc (length rest) ≤ room = subst (λ l. length l ≤ room) at (w .line-room) in
+        rw (length-append rest (upshotOf t .again (c .cards) Head r), by-outcome t .again (c .cards) Head r)
+        (cond-cases (λ l. length rest + length l ≤ room) (eqb (upshotOf t .outcome) tooSmall) _ _ (λ _. omega arith) (λ _. omega arith))
 
     data-wf : okMessage (c .cards) (c .blocks) Next (dataFor Head r Next) ≡ true
     unfolding dataFor
@@ -459,13 +374,8 @@ module _ {c : Chassis} (w : Wf c) where
     })
 
     sent-wf : (t : Turn) → MessagesOk Next (upshotOf t .sent Head r Next)
-    unfolding upshotOf
-    sent-wf GetsGranted = (data-wf, tt)
-    sent-wf GetxGranted = (data-wf, tt)
-    sent-wf GetsMissed = tt
-    sent-wf GetxMissed = tt
-    sent-wf PutTaken = tt
-    sent-wf PutLapsed = tt
+    sent-wf t = rw (by-outcome t .sent Head r Next)
+        (cond-cases (MessagesOk Next) (eqb (upshotOf t .outcome) granted) _ _ (λ _. (data-wf, tt)) (λ _. tt))
 
     -- a turn, from what depends on it
     turn-wf : (t : Turn) → CellWf Next (upshotOf t .askerSees Next (cellOf c (r .card) (r .block)))
@@ -504,31 +414,27 @@ module _ {c : Chassis} (w : Wf c) where
         })
 
     head-wf : impossible Head r ≡ false → noRoomFor c r ≡ false → Wf (orderHead c r rest .after)
-    unfolding orderHead turn upshotOf impossible noRoomFor
+    unfolding orderHead impossible noRoomFor
     head-wf i full =
         let s = Head .cell (r .card) .state in
+        let y = cellOf c (r .card) (r .block) in
         let x = place-at (r .card) (r .block) (asks-ok .card) (asks-ok .block) in
-        let more = grow (c .last) Next (cellOf c (r .card) (r .block)) (omega arith) x in
         let from : comesFrom (r .kind) s ≡ true = not-false (comesFrom (r .kind) s) (any→ (not (comesFrom (r .kind) s) ∷ _ ∷ _ ∷ _ ∷ _ ∷ []) i .0) in
         let a = asking (r .kind) s (x .code) from in
-        let K : Turn → Type 0 = λ t. Wf (changed c (r .block) (ordered t Head r Next) (rest ++ upshotOf t .again (c .cards) Head r)
-        (c .pool ++ upshotOf t .sent Head r Next) Next) in
-        let short : length (c .pool ++ []) ≤ room = rw (append-nil (c .pool)) (w .pool-room) in
-        cond-cases K (eqb (r .kind) putx) _ _
-        (λ e. cond-cases K (putStands s) PutTaken PutLapsed
-        (λ _. turn-wf PutTaken (idle-wf Next) short tt) (λ _. turn-wf PutLapsed (idle-wf Next) short tt))
-        (λ e. let waiting = a .granted-waits e in
-        let asker : CellWf Next (goesFor Next (grantedTo s) (cellOf c (r .card) (r .block)))
-        = goesFor-wf Next Next (grantedTo s) (cellOf c (r .card) (r .block)) (a .granted-code e) (omega arith)
-        (imp-i (waits (grantedTo s)) (λ _. next-numbered (c .last)))
-        (rw waiting) in
-        let lt = leb-false room (length (c .pool)) (rw e at full) in
-        let long : length (c .pool ++ dataFor Head r Next ∷ []) ≤ room = rw (length-append (c .pool) (dataFor Head r Next ∷ [])) (omega arith) in
-        cond-cases K (suffices (c .cards) Head r) _ _
-        (λ f. cond-cases K (eqb (r .kind) gets) GetsGranted GetxGranted
-        (λ _. turn-wf GetsGranted asker long tt) (λ _. turn-wf GetxGranted asker long tt))
-        (λ f. cond-cases K (eqb (r .kind) gets) GetsMissed GetxMissed
-        (λ _. turn-wf GetsMissed more short (retried-wf f, tt)) (λ _. turn-wf GetxMissed more short (retried-wf f, tt))))
+        let t = turn c r in
+        let u = by-outcome t in
+        let o = upshotOf t .outcome in
+        let no-put : eqb o granted ≡ true → eqb (r .kind) putx ≡ false = λ g. grant-no-put c r (eqb-true o granted g) in
+        turn-wf t
+        (rw (u .asker Next y) (cond-cases (CellWf Next) (eqb o granted) (goesFor Next (grantedTo s) y) _
+        (λ g. goesFor-wf Next Next (grantedTo s) y (a .granted-code (no-put g)) (omega arith)
+        (imp-i (waits (grantedTo s)) (λ _. next-numbered (c .last))) (rw (a .granted-waits (no-put g))))
+        (λ _. cond-cases (CellWf Next) (eqb o tooSmall) y idle (λ _. grow (c .last) Next y (omega arith) x) (λ _. idle-wf Next))))
+        (rw (length-append (c .pool) (upshotOf t .sent Head r Next), u .sent Head r Next)
+        (cond-cases (λ p. length (c .pool) + length p ≤ room) (eqb o granted) (dataFor Head r Next ∷ []) []
+        (λ g. let lt = leb-false room (length (c .pool)) (rw (no-put g) at full) in omega arith) (λ _. let le = w .pool-room in omega arith)))
+        (rw (u .again (c .cards) Head r) (cond-cases RequestsOk (eqb o tooSmall) _ _
+        (λ g. (retried-wf (miss-too-small c r (eqb-true o tooSmall g)), tt)) (λ _. tt)))
 
   order-wf : (l : List Request) → c .line ≡ l → NoneHolds (orderReasons c l) → Wf (order c l .after)
   unfolding order orderReasons

@@ -1,7 +1,7 @@
 -- Every event keeps the invariant.
 use Prim.Native.Nat.{ℕ, suc, _≤_, _<_}
 use native.Mathlib.Omega.{arith}
-use mathlib.Core.Bool.{Bool, true, false, not, _&&_, _||_, true≢false}
+use mathlib.Core.Bool.{Bool, true, false, cond, not, _&&_, _||_, true≢false}
 use mathlib.Core.List.{List, [], _∷_, _++_, append-nil}
 use mathlib.Core.Path.{_≡_, refl, sym, _∙_, ap, subst}
 use mathlib.Core.Logic.{_≢_}
@@ -11,9 +11,8 @@ use borrow.Author.Tests.{eqb-true, eq-eqb, ne-eqb, leb-true, leb-false, not-true
 use Rattle.rules.specs.Tests.{_⇒_}
 use Rattle.rules.specs.Lists.{replace, removed, keep, All}
 use Rattle.rules.specs.Masks.{has}
-use Rattle.rules.specs.Mask.{suffices}
-use Rattle.rules.specs.Numbers.{home, nextNumber, sameNumber, firstRetry, gets, getx, putx, none}
-use Rattle.rules.specs.Table.{stores, drops, asked, waits, comesFrom, putStands}
+use Rattle.rules.specs.Numbers.{home, nextNumber, sameNumber, firstRetry, gets, putx, granted, tooSmall, putTaken, putLapsed, none}
+use Rattle.rules.specs.Table.{stores, drops, asked, waits, comesFrom}
 use Rattle.rules.specs.Chassis.{
   Block,
   Chassis,
@@ -30,18 +29,7 @@ use Rattle.rules.specs.Chassis.{
   poolChanged,
 }
 use Rattle.rules.specs.Answers.{Result, result, NoneHolds}
-use Rattle.rules.specs.Order.{
-  held,
-  orderReasons,
-  turn,
-  upshotOf,
-  sees,
-  ordered,
-  dataFor,
-  retried,
-  orderHead,
-  order,
-}
+use Rattle.rules.specs.Order.{held, orderReasons, upshotOf, sees, ordered, dataFor, retried, orderHead, order}
 use Rattle.rules.specs.Events.{
   noCard,
   noBlock,
@@ -61,14 +49,6 @@ use Rattle.rules.specs.History.{Did, loaded, stored, settles, rejoined, 
 use Rattle.rules.specs.declared.OrderNo.{OrderNo}
 use Rattle.rules.specs.declared.Cell.{Cell}
 use Rattle.rules.specs.declared.Turn.{Turn}
-use Rattle.rules.specs.declared.Turn.the-variants.{
-  GetsGranted,
-  GetxGranted,
-  GetsMissed,
-  GetxMissed,
-  PutTaken,
-  PutLapsed,
-}
 use Rattle.rules.specs.declared.Request.{Request}
 use Rattle.rules.specs.declared.Message.{Message}
 use Rattle.rules.specs.declared.Answer.the-variants.{Done}
@@ -83,7 +63,7 @@ use Rattle.rules.specs.declared.Event.the-variants.{
   Copy,
   Rejoin,
 }
-use Rattle.rules.proofs.Tests.{clash, test, cond-cases, and-l, and-r, imp, all-elim}
+use Rattle.rules.proofs.Tests.{clash, cond-cases, and-l, and-r, imp, all-elim}
 use Rattle.rules.proofs.Lists.{
   replace-cases,
   replace-same,
@@ -94,7 +74,6 @@ use Rattle.rules.proofs.Lists.{
   All-at,
   All-keep,
 }
-use Rattle.rules.proofs.Mask.{sharers-named}
 use Rattle.rules.proofs.Board.{
   pick,
   here,
@@ -108,19 +87,11 @@ use Rattle.rules.proofs.Board.{
   base-other,
 }
 use Rattle.rules.proofs.Invariant.{BlockOk, MessageOk, RequestOk, Other, Distinct, Inv}
-use Rattle.rules.proofs.States.{kinds, idle-calm, put-stores, lapsed-calm, filled, asking, asks}
+use Rattle.rules.proofs.States.{kinds, idle-calm, filled, asking, asks}
 use Rattle.rules.proofs.Blocks.{store-block, drop-block, ask-block, fill-block, rejoin-block}
 use Rattle.rules.proofs.Holders.{held-not, given-current}
-use Rattle.rules.proofs.Turns.{
-  Ordered,
-  ordered-block,
-  gets-ordered,
-  getx-ordered,
-  gets-missed,
-  getx-missed,
-  put-taken,
-  put-lapsed,
-}
+use Rattle.rules.proofs.Upshots.{by-outcome}
+use Rattle.rules.proofs.Turns.{Ordered, ordered-block, turn-cases}
 use Rattle.rules.proofs.Refusals.{refused-cases}
 
 -- The line
@@ -420,44 +391,29 @@ module _ {c : Chassis} {log : List Did} (inv : Inv c log) where
     unfolding pending base
     settles-ok t or p ms = rw head-block (leaves t (settles (r .block)) only-settles (rw (eq-eqb (r .block) (r .block) refl) or) p ms)
 
-    -- a request that is no GETS and no PUTX is a GETX
-    is-getx : eqb (r .kind) putx ≡ false → eqb (r .kind) gets ≡ false → r .kind ≡ getx
-    is-getx e g =
-        let t = asking (r .kind) (Head .cell (r .card) .state) (inv .blocks-ok (r .block) .cells (r .card) .code) (waiting .0) .kind-is in
-        eqb-true (r .kind) getx (test (eqb (r .kind) getx) (λ y. y) (λ y. absurd (clash t (rw (g, y, e)))))
-
-    asker-stays : (t : Turn) → ((x : Cell) → upshotOf t .askerSees Next x ≡ x) → After t .cell (r .card) ≡ Head .cell (r .card)
+    asker-stays : (t : Turn) → upshotOf t .outcome ≡ tooSmall → After t .cell (r .card) ≡ Head .cell (r .card)
     unfolding ordered sees
-    asker-stays t e = rw (eq-eqb (r .card) (r .card) refl) (e (Head .cell (r .card)))
+    asker-stays t o = rw (eq-eqb (r .card) (r .card) refl, by-outcome t .asker Next (Head .cell (r .card)), o)
 
     -- what the turn leaves of the chassis
     abbrev At : Turn → Result
     At t = result (Done (upshotOf t .outcome))
         (changed c (r .block) (After t) (rest ++ upshotOf t .again (c .cards) Head r) (c .pool ++ upshotOf t .sent Head r Next) Next)
 
+    -- with what its outcome says of the line and the pool
+    at-outcome : (t : Turn) (o : ℕ) → upshotOf t .outcome ≡ o
+        → Inv (changed c (r .block) (After t) (rest ++ cond (eqb o tooSmall) (retried (c .cards) Head r ∷ []) [])
+        (c .pool ++ cond (eqb o granted) (dataFor Head r Next ∷ []) []) Next) (didAccepted c Order o ∷ log) → Keeps Order (At t)
+    unfolding did
+    at-outcome t o e h = rw (by-outcome t .sent Head r Next, by-outcome t .again (c .cards) Head r, e) h
+
     order-head-ok : Keeps Order (orderHead c r rest)
-    unfolding orderHead did didAccepted turn upshotOf pending base
-    order-head-ok =
-        let ok = inv .blocks-ok (r .block) in
-        let s = Head .cell (r .card) .state in
-        let l = ok .cells (r .card) .code in
-        let from : (kind : ℕ) → r .kind ≡ kind → comesFrom kind s ≡ true
-        = λ kind e. subst (λ i. comesFrom i s ≡ true) e (waiting .0) in
-        let K : Turn → Type 0 = λ t. Keeps Order (At t) in
-        cond-cases K (eqb (r .kind) putx) _ _
-        (λ e. cond-cases K (putStands s) PutTaken PutLapsed
-        (λ f. settles-ok PutTaken (put-taken ok (inv .few) free r Next (put-stores s l f)) [] tt)
-        (λ f. leaves PutLapsed quiet only-quiet
-        (put-lapsed ok (inv .few) free r Next (lapsed-calm s l (from putx (eqb-true (r .kind) putx e)) f)) [] tt))
-        (λ e. cond-cases K (suffices (c .cards) Head r) _ _
-        (λ f. cond-cases K (eqb (r .kind) gets) GetsGranted GetxGranted
-        (λ g. let or = gets-ordered ok (inv .few) free r Next (from gets (eqb-true (r .kind) gets g)) in
-        settles-ok GetsGranted or (dataFor Head r Next ∷ []) (data-ok GetsGranted or))
-        (λ g. let or = getx-ordered ok (inv .few) free r Next (from getx (is-getx e g)) (sharers-named (c .cards) Head r g f) in
-        settles-ok GetxGranted or (dataFor Head r Next ∷ []) (data-ok GetxGranted or)))
-        (λ f. cond-cases K (eqb (r .kind) gets) GetsMissed GetxMissed
-        (λ g. returned GetsMissed (gets-missed ok (inv .few) free r Next) (asker-stays GetsMissed (λ _. refl)))
-        (λ g. returned GetxMissed (getx-missed ok (inv .few) free r Next) (asker-stays GetxMissed (λ _. refl)))))
+    unfolding orderHead didAccepted pending base
+    order-head-ok = turn-cases c r Next (inv .blocks-ok (r .block)) (inv .few) free (waiting .0) (λ t. Keeps Order (At t))
+        (λ t e or. at-outcome t granted e (settles-ok t or (dataFor Head r Next ∷ []) (data-ok t or)))
+        (λ t e or. at-outcome t tooSmall e (returned t or (asker-stays t e)))
+        (λ t e or. at-outcome t putTaken e (settles-ok t or [] tt))
+        (λ t e or. at-outcome t putLapsed e (leaves t quiet only-quiet or [] tt))
 
   order-ok : (l : List Request) → c .line ≡ l → NoneHolds (orderReasons c l) → Keeps Order (order c l)
   unfolding order orderReasons

@@ -5,13 +5,15 @@ use mathlib.Core.List.{List, []}
 use mathlib.Core.Path.{_≡_, refl, sym, _∙_, subst}
 use mathlib.Core.Logic.{_≢_}
 use lib.Dec.{eqb}
-use borrow.Author.Tests.{eqb-true, eqb-false, eq-eqb, ne-eqb}
+use borrow.Author.Tests.{eqb-true, eq-eqb, ne-eqb}
 use Rattle.rules.specs.Lists.{All}
 use Rattle.rules.specs.Masks.{has, only, union}
-use Rattle.rules.specs.Numbers.{home, gets, getx, I}
-use Rattle.rules.specs.Table.{stores, waits, isReader, comesFrom, seesGets, seesGetx}
-use Rattle.rules.specs.Chassis.{Block, idle, goes}
+use Rattle.rules.specs.Numbers.{home, gets, getx, putx, granted, tooSmall, putTaken, putLapsed, I}
+use Rattle.rules.specs.Table.{stores, waits, isReader, comesFrom, putStands, seesGets, seesGetx}
+use Rattle.rules.specs.Chassis.{Block, Chassis, idle, goes}
+use Rattle.rules.specs.Mask.{suffices}
 use Rattle.rules.specs.Order.{
+  turn,
   given,
   upshotOf,
   sees,
@@ -31,21 +33,25 @@ use Rattle.rules.specs.declared.Turn.the-variants.{
 use Rattle.rules.specs.declared.Request.{Request}
 use Rattle.rules.proofs.Tests.{clash, test, cond-cases, false-if, or-i}
 use Rattle.rules.proofs.Lists.{All-map}
+use Rattle.rules.proofs.Mask.{sharers-named}
 use Rattle.rules.proofs.Masks.{has-union-l, has-union-r, has-only}
 use Rattle.rules.proofs.Board.{Write, pick, here}
-use Rattle.rules.proofs.Invariant.{owns, shares, CellOk, BlockOk}
+use Rattle.rules.proofs.Invariant.{owns, shares, CellOk, BlockOk, RequestOk}
 use Rattle.rules.proofs.States.{
   state,
   Calm,
   idle-calm,
   getx-calm,
-  gets-idle,
-  getx-idle,
+  gets-column,
+  getx-column,
   gave,
   granted-gets,
   granted-getx,
+  put-stores,
+  lapsed-calm,
   asking,
 }
+use Rattle.rules.proofs.Upshots.{sees-cases}
 use Rattle.rules.proofs.Blocks.{calm-ok, stores-own, one-owner}
 use Rattle.rules.proofs.Holders.{
   there,
@@ -56,23 +62,6 @@ use Rattle.rules.proofs.Holders.{
   given-owner,
   given-current,
 }
-
--- a card sees a request: by the part that it has
-pub sees-cases : (P : Cell → Type 0) (t : Turn) (B : Block) (r : Request) (n : OrderNo) (k : ℕ)
-    → (r .card ≡ k → P (upshotOf t .askerSees n (B .cell k)))
-    → (r .card ≢ k → B .owner ≡ k → P (upshotOf t .ownerSees (B .cell k)))
-    → (r .card ≢ k → B .owner ≢ k → has (r .mask) k ≡ true → P (upshotOf t .readerSees (B .cell k)))
-    → (r .card ≢ k → B .owner ≢ k → has (r .mask) k ≡ false → P (B .cell k))
-    → P (sees t B r n k)
-unfolding sees
-sees-cases P t B r n k f g h i =
-    let q = r .card in
-    let o = B .owner in
-    let x = B .cell k in
-    cond-cases P (eqb q k) (upshotOf t .askerSees n x) _ (λ e. f (eqb-true q k e))
-    (λ e. cond-cases P (eqb o k) (upshotOf t .ownerSees x) _ (λ e′. g (eqb-false q k e) (eqb-true o k e′))
-    (λ e′. cond-cases P (has (r .mask) k) (upshotOf t .readerSees x) x
-    (h (eqb-false q k e) (eqb-false o k e′)) (i (eqb-false q k e) (eqb-false o k e′))))
 
 -- a turn in which only the asker moves
 others-stay : (P : Cell → Type 0) (t : Turn) (B : Block) (r : Request) (n : OrderNo) (k : ℕ)
@@ -147,7 +136,7 @@ module _ {cards : ℕ} {B : Block} {ws : List Write} {d : ℕ} (ok : BlockOk car
 
   module _ (r : Request) (n : OrderNo) where
     -- a granted GETS
-    pub gets-ordered : comesFrom gets (B .cell (r .card) .state) ≡ true
+    gets-ordered : comesFrom gets (B .cell (r .card) .state) ≡ true
         → Ordered cards B (ordered GetsGranted B r n) (r .card) n [] (pick here ws d)
     unfolding ordered upshotOf pick
     gets-ordered asks =
@@ -191,7 +180,7 @@ module _ {cards : ℕ} {B : Block} {ws : List Write} {d : ℕ} (ok : BlockOk car
                 stands = λ _ ne. absurd (ne e);
               })
               (λ ne e. test (eqb s I)
-              (λ i. idle-moves home (union kept (only q)) (given B) current q n j (seesGets s) i (rw (eqb-true s I i) gets-idle))
+              (λ i. idle-moves home (union kept (only q)) (given B) current q n j (seesGets s) i (rw (eqb-true s I i) (gets-column .idle)))
               (λ i. let t = gave s l (owner-card ok few free j e i) in record {
                 cell-ok = record {
                   code = t .code;
@@ -215,7 +204,7 @@ module _ {cards : ℕ} {B : Block} {ws : List Write} {d : ℕ} (ok : BlockOk car
         }
 
     -- a granted GETX
-    pub getx-ordered : comesFrom getx (B .cell (r .card) .state) ≡ true
+    getx-ordered : comesFrom getx (B .cell (r .card) .state) ≡ true
         → ((k : ℕ) → k < cards → has (B .sharers) k ≡ true → r .card ≢ k → has (r .mask) k ≡ true)
         → Ordered cards B (ordered GetxGranted B r n) (r .card) n [] (pick here ws d)
     unfolding ordered upshotOf pick sees
@@ -248,7 +237,7 @@ module _ {cards : ℕ} {B : Block} {ws : List Write} {d : ℕ} (ok : BlockOk car
                 stands = λ _ ne. absurd (ne e);
               })
               (λ ne e. test (eqb s I)
-              (λ i. idle-moves q 0 (given B) current q n j (seesGetx s) i (rw (eqb-true s I i) getx-idle))
+              (λ i. idle-moves q 0 (given B) current q n j (seesGetx s) i (rw (eqb-true s I i) (getx-column .idle)))
               (λ i. calm-seen cards q 0 (given B) current q n j x (goes (seesGetx s) x)
               (getx-calm s l (or-i {a = isReader s} (λ _. owner-card ok few free j e i)))
               (λ _. ok .cells j .inside i)
@@ -275,7 +264,7 @@ module _ {cards : ℕ} {B : Block} {ws : List Write} {d : ℕ} (ok : BlockOk car
     not-reader : (j : ℕ) → owns (B .cell j .state) ≡ true → isReader (B .cell j .state) ≡ true → ⊥
     not-reader j p h = clash h (state (B .cell j .state) (ok .cells j .code) .owns-reader p)
 
-    pub getx-missed : Ordered cards B (ordered GetxMissed B r n) (r .card) n ws d
+    getx-missed : Ordered cards B (ordered GetxMissed B r n) (r .card) n ws d
     unfolding ordered upshotOf
     getx-missed = record {
       seen = missed-cases (λ j y. Seen cards (B .owner) (B .sharers) (B .memory) (pick here ws d) (r .card) n j (B .cell j) y)
@@ -289,7 +278,7 @@ module _ {cards : ℕ} {B : Block} {ws : List Write} {d : ℕ} (ok : BlockOk car
     }
 
     -- a missed GETS: nobody moves
-    pub gets-missed : Ordered cards B (ordered GetsMissed B r n) (r .card) n ws d
+    gets-missed : Ordered cards B (ordered GetsMissed B r n) (r .card) n ws d
     unfolding ordered upshotOf
     gets-missed =
         let whole : (P : Cell → Type 0) (j : ℕ) → P (B .cell j) → P (sees GetsMissed B r n j)
@@ -308,7 +297,7 @@ module _ {cards : ℕ} {B : Block} {ws : List Write} {d : ℕ} (ok : BlockOk car
     idle-seen owner sharers memory current j e = calm-seen cards owner sharers memory current (r .card) n j (B .cell j) idle
         idle-calm (λ p. absurd (true≢false p)) (λ _ ne. absurd (ne e))
 
-    pub put-taken : stores (B .cell (r .card) .state) ≡ true → Ordered cards B (ordered PutTaken B r n) (r .card) n [] (pick here ws d)
+    put-taken : stores (B .cell (r .card) .state) ≡ true → Ordered cards B (ordered PutTaken B r n) (r .card) n [] (pick here ws d)
     unfolding ordered upshotOf pick
     put-taken h =
         let q = r .card in
@@ -325,7 +314,7 @@ module _ {cards : ℕ} {B : Block} {ws : List Write} {d : ℕ} (ok : BlockOk car
           memory-is = ok .cells q .written h;
         }
 
-    pub put-lapsed : Calm (B .cell (r .card) .state) → Ordered cards B (ordered PutLapsed B r n) (r .card) n ws d
+    put-lapsed : Calm (B .cell (r .card) .state) → Ordered cards B (ordered PutLapsed B r n) (r .card) n ws d
     unfolding ordered upshotOf
     put-lapsed h =
         let q = r .card in
@@ -342,3 +331,40 @@ module _ {cards : ℕ} {B : Block} {ws : List Write} {d : ℕ} (ok : BlockOk car
               (λ e. absurd (other (w .card) (stores-own ok (w .card) p) e)) (λ _. p)) ws (ok .writes);
           memory-is = ok .memory-is;
         }
+
+-- The head's turn, whichever it is: what it leaves of the block, by its outcome
+
+module _ (c : Chassis) (r : Request) (n : OrderNo) {ws : List Write} {d : ℕ} (ok : BlockOk (c .cards) (c .block (r .block)) ws d)
+    (few : c .cards ≤ home) (free : (k : ℕ) → waits (c .block (r .block) .cell k .state) ≡ false) (asks : RequestOk (c .block (r .block)) r) where
+  abbrev Leaves : Turn → List Write → ℕ → Type 0
+  Leaves t = Ordered (c .cards) (c .block (r .block)) (ordered t (c .block (r .block)) r n) (r .card) n
+
+  -- a request that is no GETS and no PUTX is a GETX
+  is-getx : eqb (r .kind) putx ≡ false → eqb (r .kind) gets ≡ false → r .kind ≡ getx
+  is-getx e g =
+      let t = asking (r .kind) (c .block (r .block) .cell (r .card) .state) (ok .cells (r .card) .code) asks .kind-is in
+      eqb-true (r .kind) getx (test (eqb (r .kind) getx) (λ y. y) (λ y. absurd (clash t (rw (g, y, e)))))
+
+  pub turn-cases : (K : Turn → Type 0)
+      → ((t : Turn) → upshotOf t .outcome ≡ granted → Leaves t [] (pick here ws d) → K t)
+      → ((t : Turn) → upshotOf t .outcome ≡ tooSmall → Leaves t ws d → K t)
+      → ((t : Turn) → upshotOf t .outcome ≡ putTaken → Leaves t [] (pick here ws d) → K t)
+      → ((t : Turn) → upshotOf t .outcome ≡ putLapsed → Leaves t ws d → K t)
+      → K (turn c r)
+  unfolding turn upshotOf
+  turn-cases K grants misses takes lapses =
+      let B = c .block (r .block) in
+      let s = B .cell (r .card) .state in
+      let l = ok .cells (r .card) .code in
+      let from : (kind : ℕ) → r .kind ≡ kind → comesFrom kind s ≡ true = λ kind e. subst (λ i. comesFrom i s ≡ true) e asks in
+      cond-cases K (eqb (r .kind) putx) _ _
+      (λ e. cond-cases K (putStands s) PutTaken PutLapsed
+      (λ f. takes PutTaken refl (put-taken ok few free r n (put-stores s l f)))
+      (λ f. lapses PutLapsed refl (put-lapsed ok few free r n (lapsed-calm s l (from putx (eqb-true (r .kind) putx e)) f))))
+      (λ e. cond-cases K (suffices (c .cards) B r) _ _
+      (λ f. cond-cases K (eqb (r .kind) gets) GetsGranted GetxGranted
+      (λ g. grants GetsGranted refl (gets-ordered ok few free r n (from gets (eqb-true (r .kind) gets g))))
+      (λ g. grants GetxGranted refl (getx-ordered ok few free r n (from getx (is-getx e g)) (sharers-named (c .cards) B r g f))))
+      (λ f. cond-cases K (eqb (r .kind) gets) GetsMissed GetxMissed
+      (λ g. misses GetsMissed refl (gets-missed ok few free r n))
+      (λ g. misses GetxMissed refl (getx-missed ok few free r n))))

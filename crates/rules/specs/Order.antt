@@ -107,10 +107,12 @@ orderReasons c (r ∷ rest) =
 
 -- The turn: what comes of the head request
 
-unfoldable pub turn : ℕ → Block → Request → Turn
-turn cards B r = cond (eqb (r .kind) putx)
+unfoldable pub turn : Chassis → Request → Turn
+turn c r =
+    let B = c .block (r .block) in
+    cond (eqb (r .kind) putx)
     (cond (putStands (B .cell (r .card) .state)) PutTaken PutLapsed)
-    (cond (suffices cards B r)
+    (cond (suffices (c .cards) B r)
     (cond (eqb (r .kind) gets) GetsGranted GetxGranted)
     (cond (eqb (r .kind) gets) GetsMissed GetxMissed))
 
@@ -192,13 +194,17 @@ dataFor B r n = aMessage (B .owner) (r .card) (r .block) (given B) n
 abbrev pub grantedCell : OrderNo → Cell → Cell
 grantedCell n x = goesFor n (grantedTo (x .state)) x
 
+-- "the sharers become that card and q .. With home as owner, q joins the sharers"
+abbrev pub sharersWith : Block → ℕ → ℕ
+sharersWith B q = union (cond (eqb (B .owner) home) (B .sharers) (only (B .owner))) (only q)
+
 -- "Granted GETS (outcome 1): an owning card moves by the table, its value goes to memory, the sharers become that card and q, the owner
 -- becomes home. With home as owner, q joins the sharers. q goes to 6."
 abbrev pub grantedGets : Upshot
 grantedGets = staysAt granted
     but ownerMoves seesGets
     but memoryTakes (λ B q. given B)
-    but sharersBecome (λ B q. union (cond (eqb (B .owner) home) (B .sharers) (only (B .owner))) (only q))
+    but sharersBecome sharersWith
     but ownerBecomes (λ B q. home)
     but askerGoes grantedCell
     but sends dataFor
@@ -283,7 +289,7 @@ unfoldable pub orderHead : Chassis → Request → List Request → Result
 orderHead c r rest =
     let B = c .block (r .block) in
     let n = nextNumber (c .last) in
-    let t = turn (c .cards) B r in
+    let t = turn c r in
     let u = upshotOf t in
     result (Done (u .outcome))
     (changed c (r .block) (ordered t B r n) (rest ++ u .again (c .cards) B r) (c .pool ++ u .sent B r n) n)

@@ -10,8 +10,8 @@ use lib.Pow.{pow-mono}
 use borrow.Author.Tests.{eqb-true, ltb-true, ltb-false, le-ltb, leb-false}
 use Rattle.rules.specs.Lists.{replace, removed, All}
 use Rattle.rules.specs.Masks.{without, inside}
-use Rattle.rules.specs.Numbers.{mostCards, mostBlocks, maskBits, home, noNumber, nextNumber, I}
-use Rattle.rules.specs.Table.{loads, isReader, asked, seesGets, seesGetx}
+use Rattle.rules.specs.Numbers.{mostCards, mostBlocks, maskBits, home, noNumber, nextNumber, granted, tooSmall}
+use Rattle.rules.specs.Table.{loads, asked, grantedTo}
 use Rattle.rules.specs.Chassis.{
   Block,
   Chassis,
@@ -33,6 +33,7 @@ use Rattle.rules.specs.Answers.{Result, NoneHolds}
 use Rattle.rules.specs.Order.{
   given,
   upshotOf,
+  grantedCell,
   ordered,
   dataFor,
   turn,
@@ -64,14 +65,6 @@ use Rattle.rules.specs.declared.Answer.{Answer}
 use Rattle.rules.specs.declared.Answer.the-variants.{Done, Refused}
 use Rattle.rules.specs.declared.Refusal.{Refusal}
 use Rattle.rules.specs.declared.Turn.{Turn}
-use Rattle.rules.specs.declared.Turn.the-variants.{
-  GetsGranted,
-  GetxGranted,
-  GetsMissed,
-  GetxMissed,
-  PutTaken,
-  PutLapsed,
-}
 use Rattle.rules.specs.declared.Event.{Event}
 use Rattle.rules.specs.declared.Event.the-variants.{
   Load,
@@ -86,9 +79,9 @@ use Rattle.rules.specs.declared.Event.the-variants.{
 use Rattle.rules.proofs.Tests.{test, cond-cases}
 use Rattle.rules.proofs.Lists.{replace-cases, All-append, All-removed, All-at}
 use Rattle.rules.proofs.Masks.{none-inside}
-use Rattle.rules.proofs.States.{gets-idle, getx-idle}
+use Rattle.rules.proofs.States.{Column}
 use Rattle.rules.proofs.Refusals.{refused-cases}
-use Rattle.rules.proofs.Turns.{sees-cases}
+use Rattle.rules.proofs.Upshots.{by-outcome, memory-cases, cell-sees}
 use Rattle.rules.proofs.Formed.{
   CellWf,
   idle-wf,
@@ -261,77 +254,38 @@ words-say c h k =
 goes-low : (n : OrderNo) (s : ℕ) (x : Cell) → LowCell x → LowCell (goesFor n s x)
 goes-low n s x h = cond-cases Low (loads s) (x .value) 0 (λ _. h) (λ _. omega arith)
 
--- a cell that a request moves: its value stays low, and where no card is it stays idle
-pub record Moves (x y : Cell) : Type 0 where
-  low : LowCell x → LowCell y
-  pub idles : x ≡ idle → y ≡ idle
-
-stays : (x : Cell) → Moves x x
-stays x = record { low = λ h. h; idles = λ e. e }
-
-moves : (f : ℕ → ℕ) (x : Cell) → f I ≡ I → Moves x (goes (f (x .state)) x)
+-- where no card is, a cell that sees a request stays idle
+pub idle-sees : (f : ℕ → ℕ) → Column f → (x : Cell) → x ≡ idle → goes (f (x .state)) x ≡ idle
 unfolding loads
-moves f x i = record {
-  low = goes-low noNumber (f (x .state)) x;
-  idles = λ e. ap (λ y. goes (f (y .state)) y) e ∙ rw i;
-}
-
-reads : (x : Cell) → Moves x (cond (isReader (x .state)) (goes (seesGetx (x .state)) x) x)
-reads x = cond-cases (Moves x) (isReader (x .state)) (goes (seesGetx (x .state)) x) x (λ _. moves seesGetx x getx-idle) (λ _. stays x)
-
--- the asker's cell, the owner's, another's in the mask
-asker-low : (t : Turn) (n : OrderNo) (x : Cell) → LowCell x → LowCell (upshotOf t .askerSees n x)
-unfolding upshotOf
-asker-low GetsGranted n x h = goes-low n _ x h
-asker-low GetxGranted n x h = goes-low n _ x h
-asker-low GetsMissed n x h = h
-asker-low GetxMissed n x h = h
-asker-low PutTaken n x h = omega arith
-asker-low PutLapsed n x h = omega arith
-
-pub owner-moves : (t : Turn) (x : Cell) → Moves x (upshotOf t .ownerSees x)
-unfolding upshotOf
-owner-moves GetsGranted x = moves seesGets x gets-idle
-owner-moves GetxGranted x = moves seesGetx x getx-idle
-owner-moves GetsMissed x = stays x
-owner-moves GetxMissed x = stays x
-owner-moves PutTaken x = stays x
-owner-moves PutLapsed x = stays x
-
-pub reader-moves : (t : Turn) (x : Cell) → Moves x (upshotOf t .readerSees x)
-unfolding upshotOf
-reader-moves GetsGranted x = stays x
-reader-moves GetxGranted x = reads x
-reader-moves GetsMissed x = stays x
-reader-moves GetxMissed x = reads x
-reader-moves PutTaken x = stays x
-reader-moves PutLapsed x = stays x
+idle-sees f col x e = ap (λ y. goes (f (y .state)) y) e ∙ rw (col .idle)
 
 module _ (B : Block) (h : BlockWithin B) (r : Request) (n : OrderNo) where
   given-low : Low (given B)
   unfolding given
   given-low = cond-cases Low (eqb (B .owner) home) (B .memory) _ (λ _. h .low) (λ _. h .values (B .owner))
 
-  -- memory, and what is sent
-  turn-low : (t : Turn) → Low (upshotOf t .memory B (r .card)) × All LowMessage (upshotOf t .sent B r n)
-  unfolding upshotOf dataFor
-  turn-low GetsGranted = (given-low, (given-low, tt))
-  turn-low GetxGranted = (given-low, (given-low, tt))
-  turn-low GetsMissed = (h .low, tt)
-  turn-low GetxMissed = (h .low, tt)
-  turn-low PutTaken = (h .values (r .card), tt)
-  turn-low PutLapsed = (h .low, tt)
+  -- memory, what is sent, and the asker
+  memory-low : (t : Turn) → Low (upshotOf t .memory B (r .card))
+  memory-low t = memory-cases Low t B (r .card) (h .low) given-low (h .values (r .card))
+
+  sent-low : (t : Turn) → All LowMessage (upshotOf t .sent B r n)
+  unfolding dataFor
+  sent-low t = rw (by-outcome t .sent B r n)
+      (cond-cases (All LowMessage) (eqb (upshotOf t .outcome) granted) (dataFor B r n ∷ []) [] (λ _. (given-low, tt)) (λ _. tt))
+
+  asker-low : (t : Turn) (x : Cell) → LowCell x → LowCell (upshotOf t .askerSees n x)
+  asker-low t x v = rw (by-outcome t .asker n x) (cond-cases LowCell (eqb (upshotOf t .outcome) granted) (grantedCell n x) _
+      (λ _. goes-low n (grantedTo (x .state)) x v)
+      (λ _. cond-cases LowCell (eqb (upshotOf t .outcome) tooSmall) x idle (λ _. v) (λ _. omega arith)))
 
   ordered-within : (t : Turn) → r .card < mostCards → BlockWithin (ordered t B r n)
   unfolding ordered
   ordered-within t q< = record {
-    low = turn-low t .0;
-    values = λ k. let x = B .cell k in sees-cases LowCell t B r n k
-        (λ _. asker-low t n x (h .values k)) (λ _ _. owner-moves t x .low (h .values k))
-        (λ _ _ _. reader-moves t x .low (h .values k)) (λ _ _ _. h .values k);
-    beyond = λ k l. let x = B .cell k in sees-cases (λ (y : Cell). y ≡ idle) t B r n k
-        (λ e. absurd (omega arith)) (λ _ _. owner-moves t x .idles (h .beyond k l))
-        (λ _ _ _. reader-moves t x .idles (h .beyond k l)) (λ _ _ _. h .beyond k l);
+    low = memory-low t;
+    values = λ k. let x = B .cell k in cell-sees LowCell t B r n k
+        (λ _. asker-low t x (h .values k)) (h .values k) (λ f _. goes-low noNumber (f (x .state)) x (h .values k));
+    beyond = λ k l. let x = B .cell k in cell-sees (λ (y : Cell). y ≡ idle) t B r n k
+        (λ e. absurd (omega arith)) (h .beyond k l) (λ f col. idle-sees f col x (h .beyond k l));
   }
 
 -- A block anew
@@ -404,11 +358,11 @@ module _ {c : Chassis} (w : Wf c) (h : Kept c) where
   order-kept (r ∷ rest) at =
       let B = c .block (r .block) in
       let n = nextNumber (c .last) in
-      let t = turn (c .cards) B r in
+      let t = turn c r in
       let x = request→ (c .cards) (c .blocks) r (subst (All (RequestOk c)) at (w .requests) .0) in
       changed-kept (r .block) _ (rest ++ upshotOf t .again (c .cards) B r) (c .pool ++ upshotOf t .sent B r n) n (x .block)
       (ordered-within B (h .blocks (r .block)) r n t (card-room (x .card)))
-      (All-append LowMessage (c .pool) (upshotOf t .sent B r n) (h .messages) (turn-low B (h .blocks (r .block)) r n t .1))
+      (All-append LowMessage (c .pool) (upshotOf t .sent B r n) (h .messages) (sent-low B (h .blocks (r .block)) r n t))
 
   -- every event
   effect-kept : (e : Event) → NoneHolds (reasons c e) → EventFits e → Kept (effect c e .after)

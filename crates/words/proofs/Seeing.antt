@@ -3,25 +3,39 @@ use Prim.Native.Nat.{ℕ, _+_, _<_}
 use native.Mathlib.Omega.{arith}
 use mathlib.Core.Bool.{cond}
 use mathlib.Core.List.{List}
+use mathlib.Core.Logic.{_≢_}
 use mathlib.Core.Path.{_≡_, sym, _∙_, ap, subst, fun-ext}
 use lib.Dec.{ltb}
-use borrow.Author.Tests.{lt-ltb, le-ltb, ltb-true, ltb-false}
+use borrow.Author.Tests.{eq-eqb, ne-eqb, lt-ltb, le-ltb, ltb-true, ltb-false}
 use Rattle.rules.specs.Lists.{replace}
-use Rattle.rules.specs.Numbers.{mostCards, mostBlocks}
-use Rattle.rules.specs.Chassis.{Block, Chassis, aBlock, cellOf, withCell, blocksChanged, blockChanged}
-use Rattle.rules.specs.Order.{sees}
+use Rattle.rules.specs.Numbers.{mostCards, mostBlocks, granted, tooSmall}
+use Rattle.rules.specs.Chassis.{Block, Chassis, aBlock, idle, cellOf, withCell, blocksChanged, blockChanged}
+use Rattle.rules.specs.Order.{grantedCell, upshotOf, sees}
 use Rattle.rules.specs.declared.OrderNo.{OrderNo}
 use Rattle.rules.specs.declared.Cell.{Cell}
 use Rattle.rules.specs.declared.Request.{Request}
 use Rattle.rules.specs.declared.Turn.{Turn}
 use Rattle.rules.proofs.Lists.{replace-cases, replace-same, replace-own, replace-twice}
 use Rattle.rules.proofs.Tests.{test}
+use Rattle.rules.proofs.Upshots.{by-outcome}
 use Rattle.words.specs.Words.{words, cardsOf, cellAt}
 use Rattle.words.specs.Claims.{CellFits}
 use Rattle.words.specs.Inner.Parts.{putCell, seenBelow}
 use Rattle.words.proofs.Image.{words-image}
 use Rattle.words.proofs.View.{cards-of, cell-again}
 use Rattle.words.proofs.Changes.{cell-words}
+
+-- The asker's part, by the outcome
+
+module _ (t : Turn) (o : ℕ) (eo : o ≡ upshotOf t .outcome) (n : OrderNo) (x : Cell) where
+  pub asker-granted : o ≡ granted → (y : Cell) → y ≡ grantedCell n x → y ≡ upshotOf t .askerSees n x
+  asker-granted g y e = rw (by-outcome t .asker n x, ← eo, eq-eqb o granted g) e
+
+  pub asker-missed : o ≡ tooSmall → x ≡ upshotOf t .askerSees n x
+  asker-missed g = rw (by-outcome t .asker n x, ← eo, g)
+
+  pub asker-put : o ≢ granted → o ≢ tooSmall → (y : Cell) → y ≡ idle → y ≡ upshotOf t .askerSees n x
+  asker-put g m y e = rw (by-outcome t .asker n x, ← eo, ne-eqb o granted g, ne-eqb o tooSmall m) e
 
 -- what is f below m and g from there on: for m = 0 it is g, and f's own at m makes it so for m + 1
 module _ {A : Type 0} (f g : ℕ → A) where

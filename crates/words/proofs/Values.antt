@@ -8,16 +8,15 @@ use lib.Dec.{ltb}
 use Rattle.rules.specs.Numbers.{mostCards, mostBlocks}
 use Rattle.rules.specs.Chassis.{Block, Chassis, cellOf, idle, freshBlock, messageOf}
 use Rattle.rules.specs.Answers.{valueOf, Result, Reason, refusedBy}
-use Rattle.rules.specs.Order.{turn, upshotOf, orderHead, order}
+use Rattle.rules.specs.Order.{turn, orderHead, order}
 use Rattle.rules.specs.Events.{live, deliver, effect, step}
 use Rattle.rules.specs.declared.Cell.{Cell}
 use Rattle.rules.specs.declared.Request.{Request}
 use Rattle.rules.specs.declared.Message.{Message}
-use Rattle.rules.specs.declared.Turn.{Turn}
-use Rattle.rules.specs.declared.Turn.the-variants.{GetsGranted, GetxGranted, GetsMissed, GetxMissed, PutTaken, PutLapsed}
 use Rattle.rules.specs.declared.Event.{Event}
 use Rattle.rules.specs.declared.Event.the-variants.{Load, Store, Drop, Ask, Order, Deliver, Copy, Rejoin}
 use Rattle.rules.proofs.Tests.{test}
+use Rattle.rules.proofs.Upshots.{by-outcome}
 use Rattle.words.specs.Words.{cellAt, blockOf, view}
 use Rattle.words.specs.Claims.{Value-fits}
 
@@ -39,19 +38,10 @@ cell-value w k b = test (ltb b mostBlocks)
     (λ e. subst (λ (B : Block). B .cell k .value < 2 ^ 32) (sym (ap (λ t. cond t (blockOf w b) freshBlock) e)) (block-value w k b))
     (λ e. subst (λ (B : Block). B .cell k .value < 2 ^ 32) (sym (ap (λ t. cond t (blockOf w b) freshBlock) e)) (omega arith))
 
-outcome : (t : Turn) → upshotOf t .outcome < 2 ^ 32
-unfolding upshotOf
-outcome GetsGranted = omega arith
-outcome GetxGranted = omega arith
-outcome GetsMissed = omega arith
-outcome GetxMissed = omega arith
-outcome PutTaken = omega arith
-outcome PutLapsed = omega arith
-
 ordered-value : (c : Chassis) (l : List Request) → valueOf (order c l .answer) < 2 ^ 32
 unfolding order orderHead
 ordered-value c [] = omega arith
-ordered-value c (r ∷ rest) = outcome (turn (c .cards) (c .block (r .block)) r)
+ordered-value c (r ∷ rest) = let k = by-outcome (turn c r) .known in omega arith
 
 delivered-value : (c : Chassis) (i : ℕ) (m : Message) → valueOf (deliver c i m .answer) < 2 ^ 32
 unfolding deliver

@@ -11,7 +11,7 @@ use Rattle.engine.specs.declared.judge.Judged.the-variants.{No, Yes}
 -- what is decided of the head request r where its block is not held
 unfoldable pub judgedFree : Chassis → Request → Judged
 judgedFree c r = cond (impossible (c .block (r .block)) r) (No Impossible)
-    (cond (noRoomFor c r) (No PoolFull) (Yes (turn (c .cards) (c .block (r .block)) r)))
+    (cond (noRoomFor c r) (No PoolFull) (Yes (turn c r)))
 
 -- what is decided of the head request r: the first reason to refuse it, or its turn
 unfoldable pub judged : Chassis → Request → Judged

@@ -1,6 +1,7 @@
 -- `judge::judge_free`: what is read is the head's block, and the first test that holds decides.
 use borrow.Author.Needs.{needs}
-use Rattle.engine.proofs.Judging.{head-block, head-card, cards-few, owner-there, free-impossible, free-full, free-turn}
+use Rattle.words.proofs.Does.{sizes}
+use Rattle.engine.proofs.Judging.{head-block, head-card, owner-there, free-impossible, free-full, free-turn}
 use Rattle.engine.proofs.judge.judge_free.Statement.{statement}
 use Rattle.engine.proofs.judge.judge_free.Tie as tie
 
@@ -41,30 +42,26 @@ returns-2 c =
     free-full _ (c₈ .pre .0) (c₈ .pre .1) _ (c₈ .pre .2) _ (c₇ .home-at .ensures) _ (c₆ .cell-at .ensures) _ (c₅ .owner-cell .ensures)
     _ (c₄ .impossible .ensures) (c₃ .if1 .left) _ (c .before .pooled .ensures) (c .if2 .taken)
 
-cards-requires : tie.Need-cards-requires
-cards-requires c κs = search needs
-
 turn-of-requires : tie.Need-turn-of-requires
 turn-of-requires c κs =
-    let c₈ = c .before .before .before .before .before .before .before .before in
-    let c₉ = c₈ .before in (
-      cards-few _ (c₉ .pre .0) _ (c .cards .ensures),
-      head-card _ (c₉ .pre .0) (c₉ .pre .1) _ (c₉ .pre .2),
-      owner-there _ (c₉ .pre .0) (c₉ .pre .1) _ (c₉ .pre .2) _ (c₈ .home-at .ensures),
+    let c₇ = c .before .before .before .before .before .before .before in
+    let c₈ = c₇ .before in (
+      sizes _ (c₈ .pre .0) .few-cards,
+      head-card _ (c₈ .pre .0) (c₈ .pre .1) _ (c₈ .pre .2),
+      owner-there _ (c₈ .pre .0) (c₈ .pre .1) _ (c₈ .pre .2) _ (c₇ .home-at .ensures),
     )
 
 returns-3 : tie.Need-returns-3
 returns-3 c =
     let c₂ = c .before .before in
-    let c₃ = c₂ .before in
-    let c₅ = c₃ .before .before in
+    let c₄ = c₂ .before .before in
+    let c₅ = c₄ .before in
     let c₆ = c₅ .before in
     let c₇ = c₆ .before in
     let c₈ = c₇ .before in
     let c₉ = c₈ .before in
-    let c₁₀ = c₉ .before in
-    free-turn _ (c₁₀ .pre .0) (c₁₀ .pre .1) _ (c₁₀ .pre .2) _ (c₉ .home-at .ensures) _ (c₈ .cell-at .ensures) _ (c₇ .owner-cell .ensures)
-    _ (c₆ .impossible .ensures) (c₅ .if1 .left) _ (c₃ .pooled .ensures) (c₂ .if2 .left) _ (c .before .cards .ensures) _ (c .turn-of .ensures)
+    free-turn _ (c₉ .pre .0) (c₉ .pre .1) _ (c₉ .pre .2) _ (c₈ .home-at .ensures) _ (c₇ .cell-at .ensures) _ (c₆ .owner-cell .ensures)
+    _ (c₅ .impossible .ensures) (c₄ .if1 .left) _ (c₂ .pooled .ensures) (c .before .if2 .left) _ (c .turn-of .ensures)
 
 pub judge-free-spec : {M : Type 1} → statement M
 judge-free-spec =
@@ -77,6 +74,5 @@ judge-free-spec =
     returns
     pooled-requires
     returns-2
-    cards-requires
     turn-of-requires
     returns-3)

@@ -1,11 +1,9 @@
 -- `sees::owner_sees` is the rules' `ownerSees`, arm by arm.
 use borrow.Author.Needs.{needs}
-use mathlib.Core.List.{[], _∷_}
-use mathlib.Core.Path.{_≡_, refl, _∙_, ap}
+use mathlib.Core.Path.{_∙_, ap}
 use Rattle.rules.specs.Chassis.{goes}
 use Rattle.rules.specs.Order.{upshotOf}
-use Rattle.rules.specs.declared.Turn.the-variants.{GetsGranted, GetxGranted}
-use Rattle.words.proofs.Turned.{among, others}
+use Rattle.rules.proofs.Upshots.{arm-owner}
 use Rattle.engine.proofs.sees.owner_sees.Statement.{statement}
 use Rattle.engine.proofs.sees.owner_sees.Tie as tie
 
@@ -30,24 +28,17 @@ goes-for-requires-2 c κs = search needs
 returns : tie.Need-returns
 unfolding upshotOf
 returns c =
-    let c₃ = c .before .before .before in
-    let a = c₃ .before .args in
-    let e = c .goes-for .ensures ∙ ap (λ s. goes s (a .cell)) (c .before .sees-gets .ensures) in
-    among (λ t. c .goes-for .result ≡ upshotOf t .ownerSees (a .cell)) (a .turn) (GetsGranted ∷ []) (c₃ .match .keys1) (e, tt)
+    let a = c .before .before .before .before .args in
+    rw (c .before .before .enum-told .given .1) (c .goes-for .ensures ∙ ap (λ s. goes s (a .cell)) (c .before .sees-gets .ensures))
 
 returns-2 : tie.Need-returns-2
 unfolding upshotOf
 returns-2 c =
-    let c₃ = c .before .before .before in
-    let a = c₃ .before .args in
-    let e = c .goes-for2 .ensures ∙ ap (λ s. goes s (a .cell)) (c .before .sees-getx .ensures) in
-    among (λ t. c .goes-for2 .result ≡ upshotOf t .ownerSees (a .cell)) (a .turn) (GetxGranted ∷ []) (c₃ .match .keys2) (e, tt)
+    let a = c .before .before .before .before .args in
+    rw (c .before .before .enum-told2 .given .1) (c .goes-for2 .ensures ∙ ap (λ s. goes s (a .cell)) (c .before .sees-getx .ensures))
 
 returns-3 : tie.Need-returns-3
-unfolding upshotOf
-returns-3 c =
-    let a = c .before .args in
-    among (λ t. a .cell ≡ upshotOf t .ownerSees (a .cell)) (a .turn) others (c .match .keys3) (refl, (refl, (refl, (refl, tt))))
+returns-3 c = arm-owner _ _ (c .match .keys3)
 
 pub owner-sees-spec : {M : Type 1} → statement M
 owner-sees-spec =

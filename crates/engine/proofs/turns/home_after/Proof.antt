@@ -2,6 +2,7 @@
 use borrow.Author.Needs.{needs}
 use mathlib.Core.Path.{refl, sym}
 use Rattle.rules.specs.Order.{upshotOf}
+use Rattle.rules.proofs.Upshots.{arm-home}
 use Rattle.words.proofs.Turned.{home-kept}
 use Rattle.engine.proofs.turns.home_after.Statement.{statement}
 use Rattle.engine.proofs.turns.home_after.Tie as tie
@@ -31,7 +32,7 @@ unfolding upshotOf
 returns-3 c = λ B is p g. rw (c .enum-told3 .given .1) (record { memory = sym p; owner = refl; sharers = refl })
 
 returns-4 : tie.Need-returns-4
-returns-4 c = λ B is p g. home-kept B _ is _ _ (c .match .keys4)
+returns-4 c = λ B is p g. home-kept B _ is _ _ (arm-home _ B _ (c .match .keys4))
 
 pub home-after-spec : {M : Type 1} → statement M
 home-after-spec =

@@ -13,24 +13,29 @@ retried-requires c κs = search needs
 remove-request-requires : tie.Need-remove-request-requires
 remove-request-requires c κs = search needs
 
+outcome-no-requires : tie.Need-outcome-no-requires
+outcome-no-requires c κs = search needs
+
 push-request-requires : tie.Need-push-request-requires
 push-request-requires c κs =
-    let c₂ = c .before .before in
-    let c₇ = c₂ .before .before .before .before .before in
-    let p = c₇ .pre in
-    room-again (p .5 .0) _ _ (p .5 .1) (p .0) (p .1) (c₂ .remove-request .ensures)
+    let c₃ = c .before .before .before in
+    let c₈ = c₃ .before .before .before .before .before in
+    let p = c₈ .pre in
+    room-again (p .5 .0) _ _ (p .5 .1) (p .0) (p .1) (c₃ .remove-request .ensures)
 
 returns : tie.Need-returns
 returns c =
     let c₂ = c .before .before in
     let c₃ = c₂ .before in
+    let c₄ = c₃ .before in
+    let c₆ = c₄ .before .before in
     λ k B e is.
-    let removed = c₃ in
-    line-again k B _ e _ _ _ (removed .remove-request .ensures) _ _ _ (c₂ .match .keys1)
-    (removed .before .before .before .cards .ensures) (removed .before .before .retried .ensures B is) (c .push-request .ensures)
+    line-again k B _ e _ _ _ (c₃ .outcome-no .ensures) _ (c₄ .remove-request .ensures) _ _ _ (c₂ .if1 .taken)
+    (c₆ .before .cards .ensures) (c₆ .retried .ensures B is) (c .push-request .ensures)
 
 returns-2 : tie.Need-returns-2
-returns-2 c = λ k B e is. none-again k B _ e _ _ _ (c .before .remove-request .ensures) (c .match .keys2)
+returns-2 c = λ k B e is.
+    none-again k B _ e _ _ _ (c .before .outcome-no .ensures) _ (c .before .before .remove-request .ensures) (c .if1 .left)
 
 pub line-after-spec : {M : Type 1} → statement M
 line-after-spec =
@@ -39,6 +44,7 @@ line-after-spec =
     cards-requires
     retried-requires
     remove-request-requires
+    outcome-no-requires
     push-request-requires
     returns
     returns-2)
