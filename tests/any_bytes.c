@@ -118,6 +118,36 @@ static void played_states(uint64_t *state, uint64_t *copy, uint64_t *before)
     }
 }
 
+/* The fields that a record of this tag is due to read back with: those that it has, and 0 for the others. */
+static void due_fields(uint64_t *due, uint8_t tag, const uint8_t *a, uint32_t value)
+{
+    memset(due, 0, COHERENCE_FIELDS * sizeof *due);
+    due[COHERENCE_TAG] = tag;
+    if (tag == COHERENCE_DELIVER || tag == COHERENCE_COPY)
+        due[COHERENCE_POSITION] = a[0];
+    else if (tag != COHERENCE_ORDER)
+        due[COHERENCE_CARD] = a[0];
+    if (tag == COHERENCE_OPENING || tag == COHERENCE_LOAD || tag == COHERENCE_STORE || tag == COHERENCE_ASK || tag == COHERENCE_DROP)
+        due[COHERENCE_BLOCK] = a[1];
+    if (tag == COHERENCE_ASK) {
+        due[COHERENCE_KIND] = a[2];
+        due[COHERENCE_MASK] = a[3];
+    }
+    if (tag == COHERENCE_STORE)
+        due[COHERENCE_STORED] = value;
+}
+
+/* What was written at a place is read back there, field by field. */
+static void read_back(const uint8_t *journal, size_t at, size_t after, uint64_t *fields, const uint64_t *due)
+{
+    size_t end = at;
+    if (coherence_read(journal, JOURNAL, &end, fields) != 1 || end != after)
+        fail("a record does not read back");
+    for (int i = 0; i < COHERENCE_FIELDS; i++)
+        if (fields[i] != due[i])
+            fail("a field does not read back as it was written");
+}
+
 /* A record of any tag and fields is written, and read back as it was; or a refusal keeps every byte and the place. */
 static void records(uint8_t *journal, uint64_t *fields)
 {
@@ -138,9 +168,9 @@ static void records(uint8_t *journal, uint64_t *fields)
         } else {
             if (memcmp(journal, before, at) != 0 || memcmp(journal + place, before + place, JOURNAL - place) != 0)
                 fail("a byte outside of the record was written");
-            size_t end = at;
-            if (coherence_read(journal, JOURNAL, &end, fields) != 1 || end != place || fields[COHERENCE_TAG] != tag)
-                fail("a record does not read back");
+            uint64_t due[COHERENCE_FIELDS];
+            due_fields(due, tag, a, value);
+            read_back(journal, at, place, fields, due);
         }
         size_t from = any(JOURNAL + 20), next = from;
         uint64_t kept[COHERENCE_FIELDS];

@@ -1,8 +1,8 @@
 """Edits of a crate, and what the prover said of them. Shared by `.ci/contracts`, `.ci/refusals` and `tools/mutate`.
 
 An edit is a file that `rt must-fail` reads: `file:` lines, each for the `old:` and `new:` pairs after it. `rt` passes over other lines,
-so a line `for: FUNCTION: WORDS` says which wrong answer of which public function the pairs after it try, and a line `breaks: CLAIM`
-which proof of a claim has to fail.
+so a line `for: FUNCTION: WORDS` says which wrong answer of which public function the pairs after it try, and a line `breaks: LEMMA`
+which lemma has to fail: a claim, or that a function keeps its promise.
 """
 import re
 from typing import NamedTuple, Optional
@@ -10,11 +10,13 @@ from typing import NamedTuple, Optional
 FUNCTION = re.compile(r'^(?:pub(?:\(crate\))? )?(?:extern "C" )?fn (\w+)')
 
 # What the prover says where a fact fails, as against a proof that no longer has the code's form: no name that the proof uses is gone,
-# and what differs is not the code that a walk by hand goes through.
+# and what differs is not the code that a walk by hand goes through. A note on a proof, such as of its trial runs, is no failure of its own.
 FACT = re.compile(
     r"the two (?:types|sides) (?:first differ|differ only|are)|expected type|does not follow from what it read|give a proof of that|no proof of|it is not proved that"
 )
-FORM = re.compile(r"^`walk`:|has no field|can be named from here")
+FORM = re.compile(r"^`walk`:|^note: |has no field|can be named from here")
+# A lemma that fails since another did.
+RESTS = re.compile(r"^`([^`]+)`: `([^`]+)` was not admitted")
 # An error of a proof, and a note on a function that the prover walks by itself, with its place in the crate.
 SAID = re.compile(r"^(?:note: )?(?:\S*/)?((?:src|specs|proofs)/\S+?):(\d+):\d+: (?:error: )?(.*)")
 
@@ -72,8 +74,8 @@ def misfits(crate, path):
     return found
 
 
-def broken_claims(path):
-    """The claims whose proofs an edit has to break."""
+def to_break(path):
+    """The lemmas that an edit has to break."""
     return [line.partition(": ")[2] for line in path.read_text(encoding="utf-8").split("\n") if line.startswith("breaks: ")]
 
 
@@ -109,6 +111,15 @@ def said(log):
 def facts(log):
     """What it said of facts that fail."""
     return [one for one in said(log) if FACT.search(one.words) and not FORM.search(one.words)]
+
+
+def broken(log):
+    """The lemmas that fail: because of a fact, or since one fails on which they rest."""
+    lemmas = {found[1] for one in facts(log) if (found := re.match(r"`([^`]+)`: ", one.words))}
+    resting = {found.groups() for one in said(log) if (found := RESTS.match(one.words))}
+    while more := {lemma for lemma, on in resting if on in lemmas} - lemmas:
+        lemmas |= more
+    return lemmas
 
 
 def fails(found, file, text, function):

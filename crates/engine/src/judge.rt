@@ -41,11 +41,12 @@ pub(crate) fn judge(s: &[u64; WORDS], request: Request) -> Judged
     ensures { λ r. ⌜ r ≡ judged (view (now (s .entry))) request ⌝ }
 {
     let number = last(s);
-    if LAST_NUMBER <= number.0 {
+    let spent = LAST_NUMBER <= number.0;
+    let waits = held(s, request.block);
+    if spent {
         return Judged::No(Refusal::NumbersSpent);
     }
-    let block = request.block;
-    if held(s, block) {
+    if waits {
         return Judged::No(Refusal::BlockHeld);
     }
     judge_free(s, request)
