@@ -16,7 +16,7 @@ use Rattle.journal.proofs.reading.place_after.Met as reading-place-after
 use Rattle.journal.proofs.reader.new.Met as reader-new
 use Rattle.journal.proofs.reader.next.Met as reader-next
 use Rattle.journal.proofs.reader.after.Met as reader-after
-use Rattle.journal.proofs.reader.read_at.Met as reader-read-at
+use Rattle.journal.proofs.reader.read_on.Met as reader-read-on
 use Rattle.journal.proofs.writing.write.Met as writing-write
 use Rattle.journal.proofs.lines.put_line.Met as lines-put-line
 use Rattle.journal.proofs.numbers.refusal_no.Met as numbers-refusal-no
@@ -72,7 +72,7 @@ every-entry = record {
   reader-new = λ M. reader-new.met;
   reader-next = λ M. reader-next.met;
   reader-after = λ M. reader-after.met;
-  reader-read-at = λ M. reader-read-at.met;
+  reader-read-on = λ M. reader-read-on.met;
   write = λ M. writing-write.met;
   put-line = λ M. lines-put-line.met;
   refusal-no = λ M. numbers-refusal-no.met;

@@ -78,7 +78,7 @@ use Rattle.journal.proofs.reading.place_after as reading-place-after
 use Rattle.journal.proofs.reader.new as reader-new
 use Rattle.journal.proofs.reader.next as reader-next
 use Rattle.journal.proofs.reader.after as reader-after
-use Rattle.journal.proofs.reader.read_at as reader-read-at
+use Rattle.journal.proofs.reader.read_on as reader-read-on
 use Rattle.journal.proofs.writing.write as writing-write
 use Rattle.journal.proofs.lines.put_line as lines-put-line
 use Rattle.journal.proofs.numbers.refusal_no as numbers-refusal-no
@@ -139,7 +139,7 @@ pub record Every-entry : Type 2 where
   pub reader-new : Keeps reader-new.ended reader-new.Symbol.routine (λ κs a r end. (r .journal ≡ a .0) × (r .at ≡ a .1 .0))
   pub reader-next : Keeps reader-next.ended reader-next.Symbol.routine (λ κs a r end. r ≡ readAt (now (a .0 .journal)) (a .0 .at))
   pub reader-after : Keeps reader-after.ended reader-after.Symbol.routine (λ κs a r end. (r .journal ≡ a .0 .journal) × (r .at ≡ placeAfter (a .0 .at) (a .1 .0)))
-  pub reader-read-at : Keeps reader-read-at.ended reader-read-at.Symbol.routine (λ κs a r end. r ≡ readAt (now (a .0)) (a .1 .0))
+  pub reader-read-on : Keeps reader-read-on.ended reader-read-on.Symbol.routine (λ κs a r end. (r .found ≡ readAt (now (a .0)) (a .1 .0)) × (r .at ≡ placeAfter (a .1 .0) (readAt (now (a .0)) (a .1 .0))))
   -- a record written, and a line of text
   pub write : Keeps writing-write.ended writing-write.Symbol.routine (λ κs a r end. Puts (now (a .0)) (a .1 .0) (bytesOf (a .1 .1 .0)) r (now (end .0)))
   pub put-line : Keeps lines-put-line.ended lines-put-line.Symbol.routine (λ κs a r end. Puts (now (a .0)) (a .1 .0) (textLine (a .1 .1 .0) (a .1 .1 .1 .0) (a .1 .1 .1 .1 .0)) r (now (end .0)))

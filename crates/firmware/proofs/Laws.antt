@@ -47,11 +47,11 @@ no-record t card block kind mask value position a b c d e f g h i =
     rw (ne-eqb t openingTag a, ne-eqb t loadTag b, ne-eqb t storeTag c, ne-eqb t askTag d, ne-eqb t dropTag e, ne-eqb t orderTag f, ne-eqb t deliverTag g, ne-eqb t copyTag h, ne-eqb t rejoinTag i)
 
 -- reading, once it is known what was found
-pub reads : (j : List ℕ) (p : ℕ) (l : List ℕ) (n p′ : ℕ) (l′ : List ℕ) (f g : Found) → f ≡ readAt j p → f ≡ g → p′ ≡ placeAfter p f
+pub reads : (j : List ℕ) (p : ℕ) (l : List ℕ) (n p′ : ℕ) (l′ : List ℕ) (f g : Found) → f ≡ readAt j p → f ≡ g → p′ ≡ placeAfter p (readAt j p)
     → n ≡ foundNumber g → l′ ≡ fieldsAfter l g → Reads j p l n p′ l′
 reads j p l n p′ l′ f g is e after answer kept = record {
   answer = answer ∙ ap foundNumber (sym e ∙ is);
-  after = after ∙ ap (placeAfter p) is;
+  after = after;
   fields-after = kept ∙ ap (fieldsAfter l) (sym e ∙ is);
 }
 

@@ -13,8 +13,7 @@ use journal::Written;
 use journal::numbers::damage_no;
 use journal::numbers::refusal_no;
 use journal::numbers::written_no;
-use journal::reading::place_after;
-use journal::reading::read;
+use journal::reader::read_on;
 use journal::writing::write;
 use words::layout::WORDS;
 ghost use Rattle.firmware.specs.Fields.{named};
@@ -32,8 +31,9 @@ pub extern "C" fn coherence_read(
 ) -> u64
     ensures { λ n. ⌜ Reads (now (journal .entry)) (now (place .entry)) (now (fields .entry)) n (now (place .exit)) (now (fields .exit)) ⌝ }
 {
-    let found = read(journal, *place);
-    *place = place_after(found, *place);
+    let read = read_on(journal, *place);
+    let found = read.found;
+    *place = read.at;
     match found {
         Found::Whole(one, _) => {
             *fields = fields_of(one);

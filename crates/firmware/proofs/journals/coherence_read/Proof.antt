@@ -7,11 +7,8 @@ use Rattle.firmware.proofs.Laws.{reads}
 use Rattle.firmware.proofs.journals.coherence_read.Statement.{statement}
 use Rattle.firmware.proofs.journals.coherence_read.Tie as tie
 
-read-requires : tie.Need-read-requires
-read-requires c κs = search needs
-
-place-after-requires : tie.Need-place-after-requires
-place-after-requires c κs = search needs
+read-on-requires : tie.Need-read-on-requires
+read-on-requires c κs = search needs
 
 enum-known-found : tie.Need-enum-known-found
 enum-known-found c = search needs
@@ -33,26 +30,25 @@ refused-requires c κs = search needs
 
 returns : tie.Need-returns
 returns c =
-    let p = c .before .before .before .before in
-    reads _ _ _ _ _ _ _ _ (p .before .read .ensures) (c .before .before .found .given .1) (p .place-after .ensures) refl (c .fields-of .ensures)
+    let p = c .before .before .before .before .read-on .ensures in
+    reads _ _ _ _ _ _ _ _ (p .0) (c .before .before .found .given .1) (p .1) refl (c .fields-of .ensures)
 
 returns-2 : tie.Need-returns-2
 returns-2 c =
-    let p = c .before .before in
-    reads _ _ _ _ _ _ _ _ (p .before .read .ensures) (c .enum-told .given .1) (p .place-after .ensures) refl refl
+    let p = c .before .before .read-on .ensures in
+    reads _ _ _ _ _ _ _ _ (p .0) (c .enum-told .given .1) (p .1) refl refl
 
 returns-3 : tie.Need-returns-3
 returns-3 c =
-    let p = c .before .before .before .before .before in
-    reads _ _ _ _ _ _ _ _ (p .before .read .ensures) (c .before .before .before .found2 .given .1) (p .place-after .ensures)
+    let p = c .before .before .before .before .before .read-on .ensures in
+    reads _ _ _ _ _ _ _ _ (p .0) (c .before .before .before .found2 .given .1) (p .1)
     (c .refused .ensures ∙ ap (λ (x : ℕ). x * half) (c .before .damage-no .ensures)) refl
 
 pub coherence-read-spec : {M : Type 1} → statement M
 coherence-read-spec =
     tie.close
     (tie.spec
-    read-requires
-    place-after-requires
+    read-on-requires
     enum-known-found
     fields-of-requires
     enum-told
