@@ -19,6 +19,7 @@ use Rattle.firmware.proofs.Unique.{
   writes-unique,
   run-says-unique,
 }
+use Rattle.bench.proofs.Replaying.{replays-unique}
 use Rattle.demands.specs.Demands.{Nothing-second, Demand-1, Words-tell, Demand-2, Demand-3, Marked-sequences, All-demands}
 use Rattle.demands.proofs.Entries.{every-entry}
 use Rattle.demands.proofs.Numbers.{by-number}
@@ -36,6 +37,7 @@ nothing-second = record {
   c-read = reads-unique;
   c-write = writes-unique;
   c-run = run-says-unique;
+  replay = replays-unique;
 }
 
 pub demand-1 : Demand-1

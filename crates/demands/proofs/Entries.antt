@@ -35,6 +35,7 @@ use Rattle.firmware.proofs.chassis.coherence_rejoin.Met as coherence-rejoin
 use Rattle.firmware.proofs.journals.coherence_read.Met as coherence-read
 use Rattle.firmware.proofs.journals.coherence_write.Met as coherence-write
 use Rattle.firmware.proofs.journals.coherence_run.Met as coherence-run
+use Rattle.bench.proofs.replay.Met as bench-replay
 use Rattle.rules.proofs.table.loads.Met as table-loads
 use Rattle.rules.proofs.table.stores.Met as table-stores
 use Rattle.rules.proofs.table.asks_gets.Met as table-asks-gets
@@ -91,6 +92,7 @@ every-entry = record {
   c-read = λ M. coherence-read.met;
   c-write = λ M. coherence-write.met;
   c-run = λ M. coherence-run.met;
+  replay = λ M. bench-replay.met;
   loads = λ M. table-loads.met;
   stores = λ M. table-stores.met;
   asks-gets = λ M. table-asks-gets.met;

@@ -1,6 +1,7 @@
 -- Every refusal has a number of the list, and in C it stands in the upper half of what is answered.
 use Prim.Native.Nat.{ℕ, _*_, _/_, _^_}
 use native.Mathlib.Omega.{arith}
+use mathlib.Core.Bool.{true}
 use mathlib.Core.List.{List}
 use mathlib.Core.Path.{_≡_, refl, sym, ap, subst, _∙_}
 use Rattle.rules.specs.Tests.{oneOf}

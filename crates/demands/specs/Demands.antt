@@ -1,9 +1,9 @@
 -- What the customer asked for, in the customer's words and order: a reader begins here.
 --
 -- `Every-entry` says what each public function promises: Starts and Answers (engine/specs/Promise), Runs (engine/specs/Running), readAt and
--- Puts (journal/specs), and for C Says, Reads, Writes and RunSays (firmware/specs). All else is claimed of whatever keeps these promises.
--- What they say is in the rules (rules/specs), the words of a chassis (words/specs) and the records (journal/specs), each in the paper's
--- words. EventFits and Bytes say of numbers what the kinds u32 and u8 say of the arguments.
+-- Puts (journal/specs), for C Says, Reads, Writes and RunSays (firmware/specs), and for the bench Replays (bench/specs). All else is claimed
+-- of whatever keeps these promises. What they say is in the rules (rules/specs), the words of a chassis (words/specs) and the records
+-- (journal/specs), each in the paper's words. EventFits and Bytes say of numbers what the kinds u32 and u8 say of the arguments.
 use Prim.Native.Nat.{ℕ, _+_, _/_, _%_}
 use mathlib.Core.Bool.{true, false, cond}
 use mathlib.Core.List.{List, [], _∷_, _++_}
@@ -61,6 +61,7 @@ use Rattle.firmware.specs.Fields.{named}
 use Rattle.firmware.specs.Journals.{Reads, Writes, RunSays}
 use Rattle.firmware.specs.Claims.{Fields-name, Start-says-unique, Event-says-unique, Reads-unique, Writes-unique, Run-says-unique}
 use Rattle.firmware.specs.declared.Named.{Named}
+use Rattle.bench.specs.Replaying.{Replays, Replays-unique}
 use Rattle.engine.proofs.start.start as start-start
 use Rattle.engine.proofs.start.start_in as start-in
 use Rattle.engine.proofs.events.load as events-load
@@ -97,6 +98,7 @@ use Rattle.firmware.proofs.chassis.coherence_rejoin as coherence-rejoin
 use Rattle.firmware.proofs.journals.coherence_read as coherence-read
 use Rattle.firmware.proofs.journals.coherence_write as coherence-write
 use Rattle.firmware.proofs.journals.coherence_run as coherence-run
+use Rattle.bench.proofs.replay as bench-replay
 use Rattle.rules.proofs.table.loads as table-loads
 use Rattle.rules.proofs.table.stores as table-stores
 use Rattle.rules.proofs.table.asks_gets as table-asks-gets
@@ -161,6 +163,8 @@ pub record Every-entry : Type 2 where
   pub c-read : Keeps coherence-read.ended coherence-read.Symbol.routine (λ κs a n end. Reads (now (a .0)) (now (a .1 .0)) (now (a .1 .1 .0)) n (now (end .1 .0)) (now (end .1 .1 .0)))
   pub c-write : Keeps coherence-write.ended coherence-write.Symbol.routine (λ κs a n end. Writes (now (a .0)) (now (a .1 .0)) (named (a .1 .1 .0) (a .1 .1 .1 .0) (a .1 .1 .1 .1 .0) (a .1 .1 .1 .1 .1 .0) (a .1 .1 .1 .1 .1 .1 .0) (a .1 .1 .1 .1 .1 .1 .1 .0) (a .1 .1 .1 .1 .1 .1 .1 .1 .0)) n (now (end .0)) (now (end .1 .0)))
   pub c-run : Keeps coherence-run.ended coherence-run.Symbol.routine (λ κs a n end. RunSays (now (a .0)) (now (a .1 .0)) (now (a .1 .1 .0)) (now (a .1 .1 .1 .0)) n (now (end .0)) (now (end .1 .1 .0)) (now (end .1 .1 .1 .0)))
+  -- a replay through the operating system, which decides how much is read and taken; of its calls the contracts of `libc` are assumed
+  pub replay : Keeps bench-replay.ended bench-replay.Symbol.routine (λ κs a r end. Replays (now (end .1 .1 .0)) r)
   -- the columns of the card state table
   pub loads : Keeps table-loads.ended table-loads.Symbol.routine (λ κs a r end. r ≡ loads (a .0))
   pub stores : Keeps table-stores.ended table-stores.Symbol.routine (λ κs a r end. r ≡ stores (a .0))
@@ -244,6 +248,7 @@ pub record Nothing-second : Type 1 where
   pub c-read : Reads-unique
   pub c-write : Writes-unique
   pub c-run : Run-says-unique
+  pub replay : Replays-unique
 
 pub record Demand-1 : Type 2 where
   -- "Every public entry takes any input, ends,"

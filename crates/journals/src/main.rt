@@ -1,4 +1,5 @@
 // Replays each journal that an argument names: its name, and then its lines.
+use bench::JOURNAL_ROOM;
 use bench::Replayed;
 use bench::replay;
 use libc::STDOUT_FILENO;
@@ -27,9 +28,10 @@ fn play(i: usize) {
     }
     io::write_all(STDOUT_FILENO, &path[..length]);
     io::write_all(STDOUT_FILENO, b"\n");
-    let replayed = replay(fd, STDOUT_FILENO);
+    let mut journal = [0u8; JOURNAL_ROOM];
+    let replayed = replay(fd, STDOUT_FILENO, &mut journal);
     libc::close(fd);
-    let Replayed::Whole = replayed else {
+    let Replayed::Whole { read: _, taken: _ } = replayed else {
         os::fail(&path[..length]);
         return;
     };
