@@ -1,11 +1,12 @@
 //! The cases that a journal can reach: what a line of the output is about,
-//! with the answer given.
+//! with the answer given. A state or a buffer that is made up reaches more
+//! (`states/met.rs`).
 
 use crate::chassis::{Chassis, Request, LAST_RETRY};
 use crate::events::Event;
 use crate::table::{GETS, GETX};
 
-/// What a line of the output is about. An Order is told apart by its request.
+/// What an answer is about. An Order is told apart by its request.
 #[derive(Clone, Copy, PartialEq, Eq, PartialOrd, Ord, Debug)]
 pub enum Subject {
     Start,
@@ -13,6 +14,7 @@ pub enum Subject {
     Store,
     Drop,
     Ask,
+    OrderOfIllFormed,
     OrderOfNothing,
     OrderGets,
     OrderGetsLastRetry,
@@ -26,6 +28,8 @@ pub enum Subject {
     EmptyJournal,
     FirstNotOpening,
     LaterOpening,
+    ReadingTheEnd,
+    Writing,
 }
 
 /// A subject with its answer. The outcome is 0 but for Order and Deliver.
@@ -36,7 +40,7 @@ pub struct Case {
     pub outcome: u32,
 }
 
-/// The answers that a journal can reach for one subject.
+/// The answers that can be reached for one subject.
 pub struct Reach {
     pub subject: Subject,
     pub outcomes: &'static [u32],
@@ -71,7 +75,12 @@ pub const REACHABLE: [Reach; 18] = [
 
 /// The cases of `REACHABLE`, one by one.
 pub fn reachable_cases() -> impl Iterator<Item = Case> {
-    REACHABLE.iter().flat_map(|reach| {
+    cases_of(&REACHABLE)
+}
+
+/// The cases of a table, one by one.
+pub fn cases_of(table: &'static [Reach]) -> impl Iterator<Item = Case> {
+    table.iter().flat_map(|reach| {
         let subject = reach.subject;
         let accepted = reach.outcomes.iter().map(move |&outcome| Case {
             subject,
@@ -136,6 +145,7 @@ impl Subject {
             Subject::Store => "store",
             Subject::Drop => "drop",
             Subject::Ask => "ask",
+            Subject::OrderOfIllFormed => "order, ill formed",
             Subject::OrderOfNothing => "order, empty line",
             Subject::OrderGets => "order GETS",
             Subject::OrderGetsLastRetry => "order GETS, retry 3",
@@ -149,6 +159,8 @@ impl Subject {
             Subject::EmptyJournal => "empty journal",
             Subject::FirstNotOpening => "first not an opening",
             Subject::LaterOpening => "later opening",
+            Subject::ReadingTheEnd => "reading, the end",
+            Subject::Writing => "writing",
         }
     }
 }

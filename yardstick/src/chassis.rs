@@ -8,6 +8,9 @@ use crate::table::{self, I};
 pub const MAX_CARDS: usize = 8;
 pub const MAX_BLOCKS: usize = 32;
 
+/// A set of cards: bit k is card k.
+pub type Mask = u8;
+
 /// The room of the line and of the pool.
 pub const LINE_ROOM: usize = 64;
 pub const POOL_ROOM: usize = 64;
@@ -72,7 +75,7 @@ impl Cell {
 pub struct HomeBlock {
     pub memory: u32,
     pub owner: u8,
-    pub sharers: u8,
+    pub sharers: Mask,
 }
 
 /// What home has for a block at the start.
@@ -88,7 +91,7 @@ pub struct Request {
     pub card: u8,
     pub block: u8,
     pub kind: u8,
-    pub mask: u8,
+    pub mask: Mask,
     pub retry: Retry,
 }
 
@@ -117,8 +120,8 @@ pub struct Chassis {
 }
 
 /// The mask with this card's bit alone. Home has no bit.
-pub(crate) fn card_bit(card: u8) -> u8 {
-    1u8.checked_shl(u32::from(card)).unwrap_or(0)
+pub(crate) fn card_bit(card: u8) -> Mask {
+    Mask::from(1u8).checked_shl(u32::from(card)).unwrap_or(0)
 }
 
 impl Chassis {
@@ -163,13 +166,13 @@ impl Chassis {
     }
 
     /// The mask of every card.
-    pub(crate) fn every_card(&self) -> u8 {
-        let above = u8::MAX.checked_shl(u32::from(self.cards)).unwrap_or(0);
+    pub(crate) fn every_card(&self) -> Mask {
+        let above = Mask::MAX.checked_shl(u32::from(self.cards)).unwrap_or(0);
         !above
     }
 
     /// The mask of a block's owner, if a card, and its sharers.
-    pub(crate) fn holders(&self, block: u8) -> u8 {
+    pub(crate) fn holders(&self, block: u8) -> Mask {
         let home = &self.home[usize::from(block)];
         card_bit(home.owner) | home.sharers
     }

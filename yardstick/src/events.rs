@@ -1,7 +1,7 @@
 //! The events of a chassis, but for Order, each with its refusals in the
 //! paper's order. A refused event leaves the chassis as it was.
 
-use crate::chassis::{card_bit, Chassis, Message, Request, Retry, CELL_AT_START, HOME};
+use crate::chassis::{card_bit, Chassis, Mask, Message, Request, Retry, CELL_AT_START, HOME};
 use crate::refusal::Refusal;
 use crate::table::{self, GETS, I, PUTX, S};
 
@@ -21,7 +21,7 @@ pub enum Event {
         card: u8,
         block: u8,
         kind: u8,
-        mask: u8,
+        mask: Mask,
     },
     Drop {
         card: u8,
@@ -108,7 +108,7 @@ impl Chassis {
     }
 
     /// **Ask**: a request joins the line's tail with retry 0.
-    pub fn ask(&mut self, card: u8, block: u8, kind: u8, mask: u8) -> Result<(), Refusal> {
+    pub fn ask(&mut self, card: u8, block: u8, kind: u8, mask: Mask) -> Result<(), Refusal> {
         self.test_cell(card, block)?;
         if !(GETS..=PUTX).contains(&kind) {
             return Err(Refusal::NoSuchKind);

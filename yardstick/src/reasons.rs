@@ -69,8 +69,8 @@ fn wrong_opening(subject: Subject) -> &'static str {
 }
 
 /// Why an event is refused in this chassis. An empty line needs no more words
-/// than the refusal's own, and the last ones are given at no event. Number 15
-/// is not among them: no chassis of this program is ill formed.
+/// than the refusal's own, and the last ones are given at no event of a
+/// journal: no chassis that Start made is ill formed.
 pub(crate) fn refused(chassis: &Chassis, event: Event, refusal: Refusal) -> Option<String> {
     match refusal {
         Refusal::NoSuchCard => Some(cards(chassis)),
@@ -87,6 +87,7 @@ pub(crate) fn refused(chassis: &Chassis, event: Event, refusal: Refusal) -> Opti
         Refusal::Impossible => chassis.head().map(|head| impossible(chassis, &head)),
         Refusal::LineEmpty
         | Refusal::SizeOutOfRange
+        | Refusal::IllFormed
         | Refusal::CutShort
         | Refusal::UnknownTag
         | Refusal::WrongLength

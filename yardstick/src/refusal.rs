@@ -1,8 +1,8 @@
 //! The numbers that the engine, the reader and the writer say no with.
 
-/// A refusal, by the paper's number. Number 15 is missing: a `Chassis` is made
-/// by `start` and changed by events only, so none that is ill formed is handed
-/// in. The test of a state is `Chassis::well_formed`.
+/// A refusal, by the paper's number. No event of a `Chassis` answers 15: one
+/// that is ill formed comes from words alone, and `Chassis::handed_in` takes
+/// none.
 #[derive(Clone, Copy, PartialEq, Eq, Debug)]
 #[repr(u8)]
 pub enum Refusal {
@@ -20,6 +20,7 @@ pub enum Refusal {
     OrderNumbersSpent = 12,
     Impossible = 13,
     SizeOutOfRange = 14,
+    IllFormed = 15,
     CutShort = 20,
     UnknownTag = 21,
     WrongLength = 22,
@@ -50,6 +51,7 @@ impl Refusal {
             Refusal::OrderNumbersSpent => "the last order number has been given",
             Refusal::Impossible => "the head does not fit the state",
             Refusal::SizeOutOfRange => "cards are not 1 to 8 or blocks not 1 to 32",
+            Refusal::IllFormed => "the state handed in is ill formed",
             Refusal::CutShort => "the record is cut short",
             Refusal::UnknownTag => "the tag is unknown",
             Refusal::WrongLength => "the length does not fit the tag",

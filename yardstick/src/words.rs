@@ -7,13 +7,13 @@ use crate::chassis::{
 
 /// The words of the header, of home's part of a block, of a cell, and of a
 /// place of the line or the pool.
-const HEADER_WORDS: usize = 5;
-const HOME_WORDS: usize = 3;
-const CELL_WORDS: usize = 3;
-const PLACE_WORDS: usize = 5;
+pub(crate) const HEADER_WORDS: usize = 5;
+pub(crate) const HOME_WORDS: usize = 3;
+pub(crate) const CELL_WORDS: usize = 3;
+pub(crate) const PLACE_WORDS: usize = 5;
 
 /// The words of a block, home's part and the cells.
-const BLOCK_WORDS: usize = HOME_WORDS + CELL_WORDS * MAX_CARDS;
+pub(crate) const BLOCK_WORDS: usize = HOME_WORDS + CELL_WORDS * MAX_CARDS;
 
 /// The words of a chassis.
 pub const WORDS: usize =

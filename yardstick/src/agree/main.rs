@@ -1,50 +1,49 @@
-//! Whether both engines agree, word for word: over the journals of seeds, every second one damaged, the chassis that the changes told by
-//! `explain` and `picture` lead to is after every record what the proved engine's words are, with the same answer. Also whether `make`
-//! gives again the journal that `show` shows, and whether the proved engine's own run writes what a replay writes. Stops at the first
-//! difference.
-//!
-//!     agree [--from SEED] [--count N]
+//! Whether both engines agree, word for word, and the tools with them: on the journals of seeds, or on states and buffers that no journal
+//! reaches. Stops at the first difference.
+
+mod journals;
 
 #[path = "../speed/firmware.rs"]
 mod firmware;
 
 use std::env;
+use std::fmt;
 use std::io::{self, Write};
 use std::ops::Range;
 use std::process::ExitCode;
 
+use firmware::Firmware;
 use yardstick::arguments::Arguments;
-use yardstick::cases::Subject;
-use yardstick::chassis::Chassis;
-use yardstick::generate::generate;
-use yardstick::journal::Record;
-use yardstick::make::make;
-use yardstick::replay::{counted, replay, Line};
-use yardstick::run::{Run, Seen};
-use yardstick::show::show;
-use yardstick::words::{unused_words, WORDS};
+use yardstick::states::meet;
+use yardstick::states::met::Met;
 
-const USAGE: &str = "usage: agree [--from SEED] [--count N]";
+const USAGE: &str = "\
+usage:
+  agree [--count N] [--from SEED]    the journals of N seeds, every second one damaged, record by record
+  agree --states N [--from SEED]     the states of N seeds, well formed and spoiled, and every event on each of them;
+                                     records written and read at any place of any buffer
+The first difference stops it. With --states it counts what was met, and fails where a refusal, an outcome or a
+clause of row 15 was met less often than once in 1,000 states. Status 0: no difference. 1: one, or bad use.";
 
 /// How many journals are tried if nothing is said.
 const DEFAULT_COUNT: u64 = 1_000;
 
-/// What stands in every word before the first Start: it takes any words.
-const ANY_WORD: u64 = 0xDEAD_BEEF_DEAD_BEEF;
+/// Progress is told after so many states.
+const PROGRESS: u64 = 1_000_000;
 
-/// The room for text that the proved engine's run is lent: a few lines, so that it takes many pieces.
-const TEXT_ROOM: usize = 500;
+/// What is to be compared.
+enum Task {
+    Help,
+    Journals(Range<u64>),
+    States(Range<u64>),
+}
 
 fn main() -> ExitCode {
-    let seeds = seeds().map_err(|message| format!("{message}\n{USAGE}"));
-    let done = seeds.and_then(|seeds| {
-        let records = agree(seeds.clone())?;
-        let journals = seeds.end - seeds.start;
-        writeln!(
-            io::stdout(),
-            "{journals} journals, {records} records: the same words and answers; make and show undo each other"
-        )
-        .map_err(|error| format!("cannot write: {error}"))
+    let task = task().map_err(|message| format!("{message}\n{USAGE}"));
+    let done = task.and_then(|task| match task {
+        Task::Help => say(format_args!("{USAGE}")),
+        Task::Journals(seeds) => on_journals(seeds),
+        Task::States(seeds) => on_states(seeds),
     });
     match done {
         Ok(()) => ExitCode::SUCCESS,
@@ -56,105 +55,58 @@ fn main() -> ExitCode {
     }
 }
 
-/// The seeds that the command line names.
-fn seeds() -> Result<Range<u64>, String> {
+/// What the command line asks for.
+fn task() -> Result<Task, String> {
     let mut arguments = Arguments::new(env::args_os().skip(1))?;
+    if arguments.asks_for_help() {
+        return Ok(Task::Help);
+    }
     let mut number = |option| arguments.take_number(option);
-    let (first, count) = (number("--from")?, number("--count")?);
+    let (first, journals, states) = (number("--from")?, number("--count")?, number("--states")?);
     arguments.end()?;
-    let first = first.unwrap_or(0);
-    let end = first.checked_add(count.unwrap_or(DEFAULT_COUNT));
-    Ok(first..end.ok_or("the seeds go past 2^64 - 1")?)
-}
-
-/// How many records the journals of these seeds have, if all agree.
-fn agree(seeds: Range<u64>) -> Result<u64, String> {
-    let mut records = 0;
-    for seed in seeds {
-        let journal = generate(seed, seed % 2 == 1);
-        records += check(&journal).map_err(|what| format!("seed {seed}: {what}"))?;
+    let seeds = |count: u64| {
+        let first = first.unwrap_or(0);
+        let end = first.checked_add(count);
+        Ok::<_, String>(first..end.ok_or("the seeds go past 2^64 - 1")?)
+    };
+    match (journals, states) {
+        (Some(_), Some(_)) => Err("--count and --states do not go together".to_string()),
+        (None, Some(states)) => Ok(Task::States(seeds(states)?)),
+        (journals, None) => Ok(Task::Journals(seeds(journals.unwrap_or(DEFAULT_COUNT))?)),
     }
-    Ok(records)
 }
 
-/// How many records a journal has, if all agrees.
-fn check(journal: &[u8]) -> Result<u64, String> {
-    if make(show(journal, usize::MAX).as_bytes()).as_deref() != Ok(journal) {
-        return Err("make does not give again what show shows".to_string());
-    }
-    let text = proved_text(counted(journal));
-    if text != replay(journal).as_bytes() {
-        return Err("the proved engine's run writes another text".to_string());
-    }
-    check_words(journal)
+/// Compares on the journals of seeds.
+fn on_journals(seeds: Range<u64>) -> Result<(), String> {
+    let records = journals::agree(seeds.clone())?;
+    let journals = seeds.end - seeds.start;
+    say(format_args!(
+        "{journals} journals, {records} records: the same words and answers; make and show undo each other"
+    ))
 }
 
-/// The text of the proved engine's own run.
-fn proved_text(journal: &[u8]) -> Vec<u8> {
-    let mut whole = Vec::new();
-    let (mut state, mut text) = ([ANY_WORD; WORDS], [0; TEXT_ROOM]);
-    firmware::run(&mut state, journal, &mut text, |piece| {
-        whole.extend_from_slice(piece)
-    });
-    whole
-}
-
-/// Runs a journal by both engines, record by record, and compares the answers and the words. The words due are not the second program's
-/// own, but those of a chassis to which nothing is done but the changes that `explain` and `picture` tell.
-fn check_words(journal: &[u8]) -> Result<u64, String> {
-    let mut run = Run::new(journal);
-    let mut state = [ANY_WORD; WORDS];
-    let mut told = None;
-    let (mut number, mut place) = (0, 0);
-    while let Some(seen) = run.see() {
-        let answer = firmware::step(&mut state, counted(journal), &mut place, number)
-            .ok_or_else(|| format!("record {number}: the proved engine sees the end"))?;
-        let (refusal, value) = seen.line.numbers();
-        let due = (u32::from(refusal), value as u64, seen.line.is_last());
-        if (answer.refusal, answer.value, answer.is_last) != due {
-            return Err(format!("record {number}: the answers differ"));
-        }
-        tell(&mut told, &seen);
-        same_words(&state, &words_after(told.as_ref(), &seen.line))
-            .map_err(|what| format!("record {number}: {what}"))?;
-        number += 1;
-        if seen.line.is_last() {
-            return Ok(number);
+/// Compares on the states and buffers of seeds.
+fn on_states(seeds: Range<u64>) -> Result<(), String> {
+    let mut met = Met::default();
+    for seed in seeds.clone().step_by(PROGRESS as usize) {
+        let after = seeds.end.min(seed.saturating_add(PROGRESS));
+        meet(&Firmware, seed..after, &mut met)?;
+        if after < seeds.end {
+            let so_far = after - seeds.start;
+            say(format_args!("{so_far} states so far, no difference"))?;
         }
     }
-    match firmware::step(&mut state, counted(journal), &mut place, number) {
-        Some(_) => Err(format!("record {number}: the safe engine sees the end")),
-        None => Ok(number),
+    say(format_args!("{}", met.to_string().trim_end()))?;
+    match met.complaint() {
+        Some(complaint) => Err(complaint),
+        None => say(format_args!("no difference")),
     }
 }
 
-/// Makes the changes told of a record: the whole chassis at Start, which has no other record before it.
-fn tell(told: &mut Option<Chassis>, seen: &Seen<'_>) {
-    match (told, seen.record) {
-        (Some(told), _) => seen.changes().iter().for_each(|change| change.make(told)),
-        (told, Some(Record::Opening { cards, blocks })) => {
-            *told = Chassis::start(cards, blocks).ok()
-        }
-        _ => {}
-    }
-}
-
-/// The words due after a line: the chassis's, those of a refused Start, or, before any Start, those that were there.
-fn words_after(told: Option<&Chassis>, line: &Line) -> [u64; WORDS] {
-    match told {
-        Some(chassis) => chassis.words(),
-        None if line.subject == Subject::Start => unused_words(),
-        None => [ANY_WORD; WORDS],
-    }
-}
-
-/// Says which word is the first that differs, if any.
-fn same_words(proved: &[u64; WORDS], safe: &[u64; WORDS]) -> Result<(), String> {
-    let mut pairs = proved.iter().zip(safe).enumerate();
-    match pairs.find(|(_, (proved, safe))| proved != safe) {
-        Some((at, (proved, safe))) => Err(format!(
-            "word {at} is {proved} in the proved engine and {safe} in the safe one"
-        )),
-        None => Ok(()),
-    }
+/// Writes a line of the report and makes it seen at once.
+fn say(line: fmt::Arguments<'_>) -> Result<(), String> {
+    let mut out = io::stdout();
+    writeln!(out, "{line}")
+        .and_then(|()| out.flush())
+        .map_err(|error| format!("cannot write: {error}"))
 }

@@ -11,7 +11,7 @@ use crate::firmware;
 use crate::lines::push_line;
 
 /// Refusals by the paper's numbers.
-const ILL_FORMED: u32 = 15;
+const ILL_FORMED: u32 = Refusal::IllFormed.number() as u32;
 const WRONG_OPENING: u32 = Refusal::WrongOpening.number() as u32;
 
 /// What is lent to a run: the proved engine's words, and the text.

@@ -1,19 +1,24 @@
 //! Tests that look inside the engine.
 
+mod buffers;
 mod ended;
 mod explain;
 mod formed;
 mod generated;
+mod handed;
 mod history;
 mod journal;
 mod make;
 mod marked;
+mod meet;
+mod met;
 mod order;
 mod picked;
 mod picture;
 mod reasons;
 mod replay;
 mod show;
+mod states;
 mod stores;
 mod told;
 mod words;

@@ -2,7 +2,8 @@
 
 use super::busy_chassis;
 use crate::chassis::Chassis;
-use crate::words::unused_words;
+use crate::layout::{same_words, word_name};
+use crate::words::{unused_words, WORDS};
 
 /// Where the header ends, and the length of a block; where the line and the
 /// pool begin. All from the layout, not from the program.
@@ -55,4 +56,45 @@ fn a_busy_chassis_has_its_parts_in_their_places() {
         expected[at..at + part.len()].copy_from_slice(part);
     }
     assert_eq!(busy_chassis().words(), expected);
+}
+
+/// The last word of each part, and the first.
+#[test]
+fn each_word_has_a_name() {
+    for (at, name) in [
+        (0, "cards"),
+        (BLOCKS_AT - 1, "last order number"),
+        (BLOCKS_AT, "memory of block 0"),
+        (BLOCKS_AT + 2, "sharers of block 0"),
+        (BLOCKS_AT + 3, "state of card 0 for block 0"),
+        (
+            BLOCKS_AT + BLOCK - 1,
+            "awaited number of card 7 for block 0",
+        ),
+        (BLOCKS_AT + BLOCK + 1, "owner of block 1"),
+        (LINE_AT - 1, "awaited number of card 7 for block 31"),
+        (LINE_AT, "card of the line's place 0"),
+        (LINE_AT + 9, "retry of the line's place 1"),
+        (POOL_AT - 2, "mask of the line's place 63"),
+        (POOL_AT, "sender of the pool's place 0"),
+        (WORDS - 1, "number of the pool's place 63"),
+    ] {
+        assert_eq!(word_name(at), name, "word {at}");
+    }
+}
+
+#[test]
+fn the_first_word_that_differs_is_told() {
+    let words = busy_chassis().words();
+    assert_eq!(same_words(&words, &words), Ok(()));
+    for at in 0..WORDS {
+        let mut other = words;
+        other[at..].fill(9);
+        let told = format!(
+            "word {at}, {}, is 9 in the proved engine and {} in the safe one",
+            word_name(at),
+            words[at]
+        );
+        assert_eq!(same_words(&other, &words), Err(told));
+    }
 }

@@ -1,0 +1,78 @@
+//! Both engines on a state: a Start and every event, the answers and the words.
+
+use super::met::Met;
+use super::same;
+use super::spoil::{draw_state, Form, State};
+use super::tried::tried;
+use crate::cases::Subject;
+use crate::chassis::Chassis;
+use crate::engine::{Answer, Engine, Safe};
+use crate::events::Event;
+use crate::handed::wrong_with;
+use crate::journal::Record;
+use crate::layout::same_words;
+use crate::random::Random;
+use crate::words::WORDS;
+
+/// A Start and each event, all on the same words.
+pub(super) fn meet_on_state(
+    proved: &dyn Engine,
+    random: &mut Random,
+    met: &mut Met,
+) -> Result<(), String> {
+    let state = draw_state(random);
+    let handed_in = Chassis::handed_in(&state.words).ok();
+    for record in tried(random, &state.chassis) {
+        let answer = same_answer_and_words(proved, &state.words, record)
+            .map_err(|what| format!("{}, {record}: {what}", described(&state)))?;
+        met.add_answer(subject(record, handed_in.as_ref()), answer);
+    }
+    met.add_state(handed_in.is_some());
+    if let Some(alone) = wrong_alone(&state) {
+        met.add_wrong_alone(alone);
+    }
+    Ok(())
+}
+
+/// The only thing wrong with a state, if there is one alone. Where more than a
+/// word is spoiled, a size out of range may hide another thing.
+fn wrong_alone(state: &State) -> Option<&'static str> {
+    if state.form != Form::OneSpoiled {
+        return None;
+    }
+    match wrong_with(&state.words)[..] {
+        [alone] => Some(alone),
+        _ => None,
+    }
+}
+
+/// A Start or an event by both engines: the answer, if all is the same.
+fn same_answer_and_words(
+    proved: &dyn Engine,
+    words: &[u64; WORDS],
+    record: Record,
+) -> Result<Answer, String> {
+    let (mut one, mut other) = (*words, *words);
+    let (answer, due) = (proved.run(&mut one, record), Safe.run(&mut other, record));
+    same("the answer", answer, due)?;
+    same_words(&one, &other)?;
+    Ok(due)
+}
+
+/// What a state is like, for a message.
+fn described(state: &State) -> String {
+    match &wrong_with(&state.words)[..] {
+        [] => "a well formed state".to_string(),
+        wrong => format!("an ill formed state ({})", wrong.join(", ")),
+    }
+}
+
+/// What a Start or an event is about. No head is known in an ill formed state.
+fn subject(record: Record, handed_in: Option<&Chassis>) -> Subject {
+    match (record, handed_in) {
+        (Record::Opening { .. }, _) => Subject::Start,
+        (Record::Event(Event::Order), None) => Subject::OrderOfIllFormed,
+        (Record::Event(event), None) => Subject::of(&event, &Chassis::unused()),
+        (Record::Event(event), Some(chassis)) => Subject::of(&event, chassis),
+    }
+}
