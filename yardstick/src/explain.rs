@@ -6,7 +6,7 @@ use std::fmt::{self, Write};
 use crate::amounts::Many;
 use crate::journal::Record;
 use crate::reasons::reason;
-use crate::replay::{counted, Line, JOURNAL_LIMIT};
+use crate::replay::{counted, unread_count, Line, JOURNAL_LIMIT};
 use crate::run::{Run, Seen};
 use crate::told::{accepted, text, told, Told};
 
@@ -109,22 +109,19 @@ fn write_answer(out: &mut String, seen: &Seen, look: Look) -> fmt::Result {
     writeln!(out, "  answer {refusal} {value}: {words}")
 }
 
-/// Writes why the run ends, and how many bytes it leaves.
+/// Writes where the run ends and how many bytes it leaves, or that the journal
+/// ends with it.
 fn write_end(out: &mut String, journal: &[u8], last: Option<Line>) -> fmt::Result {
-    let read = counted(journal).len();
-    match last.filter(Line::is_last) {
-        Some(line) => {
-            let left = Many(read - line.place.min(read), "byte");
-            writeln!(
-                out,
-                "The run ends at byte {}, with {left} left.",
-                line.place
-            )?;
-        }
-        None => writeln!(out, "The journal ends at byte {read}.")?,
+    let ended = last.filter(Line::is_last).map(|line| line.place);
+    let unread = unread_count(journal);
+    let end = ended.unwrap_or(counted(journal).len());
+    if ended.is_none() && unread == 0 {
+        return writeln!(out, "The journal ends at byte {end}.");
     }
-    if journal.len() > JOURNAL_LIMIT {
-        let unread = Many(journal.len() - JOURNAL_LIMIT, "byte");
+    let left = Many(journal.len() - end, "byte");
+    writeln!(out, "The run ends at byte {end}, with {left} left.")?;
+    if unread > 0 {
+        let unread = Many(unread, "byte");
         writeln!(out, "Past byte {JOURNAL_LIMIT} nothing is read: {unread}.")?;
     }
     Ok(())

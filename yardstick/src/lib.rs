@@ -24,10 +24,12 @@ pub mod files;
 pub mod formed;
 pub mod generate;
 pub mod handed;
+pub mod hints;
 pub mod journal;
 pub mod layout;
 pub mod make;
 pub mod marked;
+pub mod mistakes;
 pub mod names;
 pub mod order;
 pub mod picked;
@@ -47,6 +49,7 @@ pub mod stores;
 pub mod table;
 pub mod text;
 pub mod told;
+pub mod usage;
 pub mod words;
 
 #[cfg(test)]

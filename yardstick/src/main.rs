@@ -23,22 +23,7 @@ use yardstick::picture::{page, Picture};
 use yardstick::replay::{replay, JOURNAL_LIMIT};
 use yardstick::show::show;
 use yardstick::stored;
-
-const USAGE: &str = "\
-usage:
-  yardstick replay [FILE]                               the output for a journal
-  yardstick generate --seed N [--damaged] > JOURNAL     the journal of a seed
-  yardstick counts [--seeds N]                          how often each case is reached
-  yardstick show FILE                                   a journal in a readable form
-  yardstick make FILE [-o JOURNAL]                      the journal of a readable form
-  yardstick explain FILE                                what each record of a journal changes, and why
-  yardstick picture FILE [-o PAGE.html]                 a journal as a page for the browser
-  yardstick compare PROGRAM [--from SEED] [--count N]   another program's output with this one's
-  yardstick stored DIR [--check]                        the stored journals, written or checked
-  yardstick help                                        this text
-FILE may be - for standard input; replay reads it if nothing is said.
-Status 0: all is well. 1: something is wrong, or the run of a journal that is
-shown, explained or pictured ends early. 2: bad use.";
+use yardstick::usage::{command, usage, Verb, VERSION};
 
 /// How many seeds are counted, and compared, if nothing is said.
 const DEFAULT_SEEDS: u64 = 2_000;
@@ -46,12 +31,12 @@ const DEFAULT_COUNT: u64 = 1_000;
 
 /// Why a command ends without success.
 enum Failure {
-    /// The command line is not understood.
+    /// The command line is not understood: why, and what would be.
     Usage(String),
     /// The work itself failed, or found something wrong.
     Work(String),
-    /// A text has a mistake. The message begins with its place, as editors
-    /// understand it.
+    /// A text has mistakes. Each line of the message begins with the place of
+    /// one, as editors understand it.
     Text(String),
     /// Whoever reads the output has seen enough, as `head` does. There is
     /// nothing to tell, but not all was written.
@@ -65,7 +50,7 @@ const USAGE_STATUS: u8 = 2;
 fn main() -> ExitCode {
     let (message, status) = match run() {
         Ok(()) => return ExitCode::SUCCESS,
-        Err(Failure::Usage(message)) => (format!("yardstick: {message}\n{USAGE}"), USAGE_STATUS),
+        Err(Failure::Usage(message)) => (format!("yardstick: {message}"), USAGE_STATUS),
         Err(Failure::Work(message)) => (format!("yardstick: {message}"), WORK_STATUS),
         Err(Failure::Text(message)) => (message, WORK_STATUS),
         Err(Failure::Closed) => return ExitCode::from(WORK_STATUS),
@@ -75,25 +60,50 @@ fn main() -> ExitCode {
     ExitCode::from(status)
 }
 
-/// Finds the command and runs it.
+/// Finds the command and runs it. Bad use is told with how the command is used,
+/// or with the list of the commands where none is found.
 fn run() -> Result<(), Failure> {
-    let mut arguments = Arguments::new(env::args_os().skip(1)).map_err(Failure::Usage)?;
-    if arguments.asks_for_help() {
-        return write_out(format!("{USAGE}\n").as_bytes());
+    let with_list = |message| Failure::Usage(format!("{message}\n{}", usage()));
+    let mut arguments = Arguments::new(env::args_os().skip(1)).map_err(with_list)?;
+    if arguments.asks_for_version() {
+        return write_line(VERSION);
     }
-    let command = arguments.take_word("the command").map_err(Failure::Usage)?;
-    match command.as_str() {
-        "replay" => run_replay(arguments),
-        "generate" => run_generate(arguments),
-        "counts" => run_counts(arguments),
-        "show" => run_show(arguments),
-        "make" => run_make(arguments),
-        "explain" => run_explain(arguments),
-        "picture" => run_picture(arguments),
-        "compare" => run_compare(arguments),
-        "stored" => run_stored(arguments),
-        _ => Err(Failure::Usage(format!("unknown command {command}"))),
+    let name = if arguments.take_help() {
+        "help".to_string()
+    } else {
+        arguments.take_word("the command").map_err(with_list)?
+    };
+    let command = command(&name).map_err(with_list)?;
+    run_command(command.verb, arguments).map_err(|failure| match failure {
+        Failure::Usage(message) => Failure::Usage(format!("{message}\n{}", command.usage())),
+        other => other,
+    })
+}
+
+/// Runs a command with the words after it.
+fn run_command(verb: Verb, arguments: Arguments) -> Result<(), Failure> {
+    match verb {
+        Verb::Replay => run_replay(arguments),
+        Verb::Generate => run_generate(arguments),
+        Verb::Counts => run_counts(arguments),
+        Verb::Show => run_show(arguments),
+        Verb::Make => run_make(arguments),
+        Verb::Explain => run_explain(arguments),
+        Verb::Picture => run_picture(arguments),
+        Verb::Compare => run_compare(arguments),
+        Verb::Stored => run_stored(arguments),
+        Verb::Help => run_help(arguments),
     }
+}
+
+/// Writes the help of the command that is named, or the list of all.
+fn run_help(mut arguments: Arguments) -> Result<(), Failure> {
+    if arguments.is_over() {
+        return write_line(&usage());
+    }
+    let name = arguments.take_word("COMMAND").map_err(Failure::Usage)?;
+    let command = command(&name).map_err(Failure::Usage)?;
+    write_line(&command.help())
 }
 
 /// Replays a journal. What becomes of it stands in the output, whose form the
@@ -110,7 +120,7 @@ fn run_replay(mut arguments: Arguments) -> Result<(), Failure> {
 }
 
 fn run_generate(mut arguments: Arguments) -> Result<(), Failure> {
-    let damaged = arguments.take_flag("--damaged");
+    let damaged = arguments.take_flag("--damaged").map_err(Failure::Usage)?;
     let seed = arguments.take_number("--seed").map_err(Failure::Usage)?;
     arguments.end().map_err(Failure::Usage)?;
     let Some(seed) = seed else {
@@ -143,8 +153,7 @@ fn run_make(mut arguments: Arguments) -> Result<(), Failure> {
     let file = arguments.take_file("FILE").map_err(Failure::Usage)?;
     arguments.end().map_err(Failure::Usage)?;
     let text = read_in(&file, LONGEST_TEXT)?;
-    let journal =
-        make(&text).map_err(|mistake| Failure::Text(format!("{}:{mistake}", name_of(&file))))?;
+    let journal = make(&text).map_err(|mistakes| Failure::Text(mistakes.lines(name_of(&file))))?;
     match out.filter(|name| name != STANDARD) {
         Some(name) => write_beside(&file, &name, &journal),
         None => write_out(&journal),
@@ -206,7 +215,7 @@ fn run_compare(mut arguments: Arguments) -> Result<(), Failure> {
 }
 
 fn run_stored(mut arguments: Arguments) -> Result<(), Failure> {
-    let only_check = arguments.take_flag("--check");
+    let only_check = arguments.take_flag("--check").map_err(Failure::Usage)?;
     let directory = arguments.take_word("DIR").map_err(Failure::Usage)?;
     arguments.end().map_err(Failure::Usage)?;
     let directory = Path::new(&directory);
@@ -248,6 +257,11 @@ fn write_beside(read: &str, written: &str, bytes: &[u8]) -> Result<(), Failure> 
     }
     write_whole(Path::new(written), bytes)
         .map_err(|error| Failure::Work(format!("{written}: {error}")))
+}
+
+/// Writes a text and a line's end to standard output.
+fn write_line(text: &str) -> Result<(), Failure> {
+    write_out(format!("{text}\n").as_bytes())
 }
 
 /// Writes all bytes to standard output.

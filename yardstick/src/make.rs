@@ -4,10 +4,11 @@
 //! each of the bytes after the word `bytes` is two hex digits.
 
 use crate::files::LONGEST_JOURNAL;
-use crate::journal::append;
+use crate::journal::{append, read_record};
+use crate::mistakes::{Mistake, Mistakes};
 use crate::script::{ask, copy, deliver, drop_copy, load, order, rejoin, start, store};
 use crate::table::{GETS, GETX, PUTX};
-use crate::text::{text_of, Mistake, Words};
+use crate::text::{is_utf_16, line_of, unmarked, Words};
 
 /// What is expected where it is not found.
 const AN_EVENT: &str =
@@ -18,21 +19,52 @@ const A_KIND: &str = "GETS, GETX, PUTX or `kind` is expected";
 const A_MASK: &str = "a mask of 8 binary digits, or of 0x and hex digits, is expected";
 const TWO_DIGITS: &str = "a byte of two hex digits is expected";
 
-/// The journal of a text, or the text's first mistake. A journal that the
-/// other commands would not read is one, at the line that makes it too long.
-pub fn make(text: &[u8]) -> Result<Vec<u8>, Mistake> {
+/// The journal of a text, or the text's mistakes. A journal that the other
+/// commands would not read is one, at the line that makes it too long: what
+/// comes after it is not looked at.
+pub fn make(text: &[u8]) -> Result<Vec<u8>, Mistakes> {
     let mut journal = Vec::new();
-    for (number, line) in (1..).zip(text_of(text)?.lines()) {
-        add_line(&mut journal, Words::of_line(number, line))?;
+    let mut mistakes = Mistakes::default();
+    for (number, line) in (1..).zip(text_in(text)?.split(|byte| *byte == b'\n')) {
+        let added = line_of(number, line)
+            .and_then(|line| add_line(&mut journal, Words::of_line(number, line)));
+        if let Err(mistake) = added {
+            mistakes.add(mistake);
+        }
         if journal.len() > LONGEST_JOURNAL {
-            return Err(Mistake {
-                line: number,
-                column: 1,
-                what: format!("the journal is longer than {LONGEST_JOURNAL} bytes from here on"),
-            });
+            mistakes.add(too_long(number));
+            break;
         }
     }
-    Ok(journal)
+    mistakes.or(journal)
+}
+
+/// The text in these bytes, if its lines can be looked at: other forms would
+/// have a mistake in every line.
+fn text_in(bytes: &[u8]) -> Result<&[u8], Mistake> {
+    let mistake = |what: &str| {
+        Err(Mistake {
+            line: 1,
+            column: 1,
+            what: what.to_string(),
+        })
+    };
+    if is_utf_16(bytes) {
+        mistake("the text is UTF-16, not UTF-8")
+    } else if matches!(read_record(bytes, 0), Ok(Some(_))) {
+        mistake("this is a journal, not a text: `show` turns it into one")
+    } else {
+        Ok(unmarked(bytes))
+    }
+}
+
+/// The mistake of a line that makes the journal too long.
+fn too_long(line: usize) -> Mistake {
+    Mistake {
+        line,
+        column: 1,
+        what: format!("the journal is longer than {LONGEST_JOURNAL} bytes from here on"),
+    }
 }
 
 /// Adds what a line says: a record, bytes, or nothing.

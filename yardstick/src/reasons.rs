@@ -29,22 +29,26 @@ pub fn reason(seen: &Seen) -> Option<String> {
 /// seen in the record itself.
 fn ended(seen: &Seen, refusal: Refusal) -> Option<String> {
     match refusal {
-        Refusal::CutShort => Some(cut_short(seen.rest)),
+        Refusal::CutShort => Some(cut_short(seen.rest, seen.has_unread)),
         Refusal::WrongLength => wrong_length(seen.rest),
         Refusal::WrongOpening => Some(wrong_opening(seen.line.subject).to_string()),
         _ => None,
     }
 }
 
-/// Refusal 20: how long the record is, and how much of it there is.
-fn cut_short(rest: &[u8]) -> String {
+/// Refusal 20: how long the record is, and how much of it there is, or is read.
+fn cut_short(rest: &[u8], has_unread: bool) -> String {
     let tag = rest.first().filter(|_| rest.len() >= HEAD_LENGTH);
     let whole = match tag.and_then(|tag| Some((tag, value_length(*tag)?))) {
         Some((tag, length)) => format!("with tag {tag:02x} has {}", HEAD_LENGTH + length),
         None => format!("has at least {HEAD_LENGTH}"),
     };
-    let cut = rest.len();
-    format!("a record {whole} bytes, and this one is cut after {cut}")
+    let end = if has_unread {
+        "the reading of this one ends"
+    } else {
+        "this one is cut"
+    };
+    format!("a record {whole} bytes, and {end} after {}", rest.len())
 }
 
 /// Refusal 22: the length that the tag has, and the one that stands there.

@@ -7,12 +7,13 @@ use crate::changes::{changes, Change};
 use crate::chassis::Chassis;
 use crate::events::Event;
 use crate::journal::{read_record, Record};
-use crate::replay::{counted, Line, Replay};
+use crate::replay::{counted, unread_count, Line, Replay};
 use crate::stores::{Struck, Unsettled};
 
 /// The run of a journal.
 pub struct Run<'a> {
     journal: &'a [u8],
+    has_unread: bool,
     replay: Replay<'a>,
     /// The chassis before the record and after it: before any Start, the
     /// one of 0 cards and 0 blocks.
@@ -29,8 +30,10 @@ pub struct Seen<'a> {
     pub line: Line,
     /// None if the bytes are no record.
     pub record: Option<Record>,
-    /// The bytes from the record's place on.
+    /// The bytes from the record's place on that are read.
     pub rest: &'a [u8],
+    /// Whether the journal goes on behind them.
+    pub has_unread: bool,
     pub before: &'a Chassis,
     pub after: &'a Chassis,
     /// The stores that the record strikes, by block.
@@ -42,6 +45,7 @@ impl<'a> Run<'a> {
     pub fn new(journal: &'a [u8]) -> Run<'a> {
         Run {
             journal: counted(journal),
+            has_unread: unread_count(journal) > 0,
             replay: Replay::new(journal),
             before: Chassis::unused(),
             after: Chassis::unused(),
@@ -74,6 +78,7 @@ impl<'a> Run<'a> {
             line,
             record,
             rest: self.journal.get(line.place..).unwrap_or(&[]),
+            has_unread: self.has_unread,
             before: &self.before,
             after: &self.after,
             struck: &self.struck,

@@ -5,6 +5,7 @@
 use std::fmt::{self, Write};
 
 use crate::amounts::Many;
+use crate::ended::unread;
 use crate::events::Event;
 use crate::journal::{Reader, Record};
 use crate::names::Kind;
@@ -79,12 +80,10 @@ fn write_end(out: &mut String, journal: &[u8], line: Option<Line>) -> fmt::Resul
     if let Some(Err(refusal)) = line.map(|line| line.answer) {
         writeln!(out, "# 0 at byte 0: {refusal}")?;
     }
-    let unread = journal.get(JOURNAL_LIMIT..).unwrap_or(&[]);
-    if !unread.is_empty() {
-        let many = Many(unread.len(), "byte");
-        writeln!(out, "# past byte {JOURNAL_LIMIT} nothing is read: {many}")?;
+    if let Some(words) = unread(journal) {
+        writeln!(out, "# {words}")?;
     }
-    write_bytes(out, unread)
+    write_bytes(out, journal.get(JOURNAL_LIMIT..).unwrap_or(&[]))
 }
 
 /// Writes bytes that are no record.

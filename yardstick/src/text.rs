@@ -1,8 +1,8 @@
-//! The words of a text's lines, each with its place, and what is wrong with
-//! them.
+//! The lines of a text and their words, each with its place.
 
-use std::fmt;
 use std::str;
+
+use crate::mistakes::Mistake;
 
 /// The sign before a comment, which goes on to the line's end.
 const COMMENT: char = '#';
@@ -10,32 +10,30 @@ const COMMENT: char = '#';
 /// A longer word is cut where it is quoted.
 const LONGEST_QUOTED: usize = 40;
 
-/// The first thing in a text that is not as it should be.
-#[derive(Clone, PartialEq, Eq, Debug)]
-pub struct Mistake {
-    /// The line and the column, in characters, both from 1.
-    pub line: usize,
-    pub column: usize,
-    /// What is wrong, in words.
-    pub what: String,
+/// The bytes that some editors put before a text, to say that it is UTF-8.
+const UTF_8_MARK: &[u8] = b"\xEF\xBB\xBF";
+
+/// Those that say that it is UTF-16, of either order of bytes.
+const UTF_16_MARKS: [&[u8]; 2] = [b"\xFF\xFE", b"\xFE\xFF"];
+
+/// A text without the mark of its encoding, which is in no column.
+pub fn unmarked(text: &[u8]) -> &[u8] {
+    text.strip_prefix(UTF_8_MARK).unwrap_or(text)
 }
 
-impl fmt::Display for Mistake {
-    /// As `3:9: a number from 0 to 255 is expected, not the line's end`.
-    fn fmt(&self, out: &mut fmt::Formatter<'_>) -> fmt::Result {
-        write!(out, "{}:{}: {}", self.line, self.column, self.what)
-    }
+/// Whether a text says that it is UTF-16.
+pub fn is_utf_16(text: &[u8]) -> bool {
+    UTF_16_MARKS.iter().any(|mark| text.starts_with(mark))
 }
 
-/// The text in bytes, if they are UTF-8; else the place of the first that is not.
-pub fn text_of(bytes: &[u8]) -> Result<&str, Mistake> {
+/// The line of this number, if its bytes are UTF-8; else the place of the
+/// first that is not.
+pub fn line_of(line: usize, bytes: &[u8]) -> Result<&str, Mistake> {
     str::from_utf8(bytes).map_err(|error| {
         let sound = bytes.get(..error.valid_up_to()).unwrap_or(&[]);
-        let before = String::from_utf8_lossy(sound);
-        let last_line = before.rsplit('\n').next().unwrap_or("");
         Mistake {
-            line: before.matches('\n').count() + 1,
-            column: last_line.chars().count() + 1,
+            line,
+            column: String::from_utf8_lossy(sound).chars().count() + 1,
             what: "the text is not UTF-8".to_string(),
         }
     })

@@ -5,6 +5,8 @@ use std::io::Write;
 use std::path::{Path, PathBuf};
 use std::process::{Command, Output, Stdio};
 
+use yardstick::replay::{Replay, JOURNAL_LIMIT};
+
 const PROGRAM: &str = env!("CARGO_BIN_EXE_yardstick");
 
 /// A fresh directory below the build's own.
@@ -36,7 +38,7 @@ fn run(directory: &Path, words: &[&str], input: &[u8]) -> Output {
 
 /// Command lines that are not understood.
 #[rustfmt::skip]
-const BAD_USE: [&[&str]; 40] = [
+const BAD_USE: [&[&str]; 52] = [
     &[],
     &["unknown"],
     &[""],
@@ -77,6 +79,18 @@ const BAD_USE: [&[&str]; 40] = [
     &["stored", "--chek"],
     &["stored", "-"],
     &["-"],
+    &["generate", "--seed="],
+    &["generate", "--seed=1", "--seed=2"],
+    &["generate", "--seed=1", "--damaged=1"],
+    &["generate", "--seed=1=2"],
+    &["generate", "--seed=1", "--damagd"],
+    &["counts", "--seeds=-1"],
+    &["make", "text", "-o=journal"],
+    &["show", "--seed=1", "journal"],
+    &["help", "unknown"],
+    &["unknown", "--help"],
+    &["help", ""],
+    &["version"],
 ];
 
 #[test]
@@ -105,54 +119,137 @@ fn complaint(words: &[&str]) -> String {
 fn what_is_not_understood_is_told() {
     for (words, expected) in [
         (
-            ["generate", "--seed", "18446744073709551616"],
-            "yardstick: --seed needs a number from 0 to 18446744073709551615, \
-             not 18446744073709551616",
+            &["generate", "--seed", "18446744073709551616"][..],
+            "--seed needs a number from 0 to 18446744073709551615, not 18446744073709551616",
         ),
         (
-            ["generate", "--seed", "1x"],
-            "yardstick: --seed needs a number, not \"1x\"",
+            &["generate", "--seed=1x"],
+            "--seed needs a number, not \"1x\"",
         ),
-        (
-            ["stored", "", "--check"],
-            "yardstick: DIR needs a name, not \"\"",
-        ),
+        (&["stored", "", "--check"], "DIR needs a name, not \"\""),
+        (&["generate", "--damaged=yes"], "--damaged takes no value"),
+        (&["picture", "a", "-o", "b", "-o", "c"], "-o is given twice"),
+        (&["show", "one", "two"], "two is not understood"),
     ] {
-        assert_eq!(complaint(&words), expected);
+        assert_eq!(complaint(words), format!("yardstick: {expected}"));
     }
     let directory = directory("last_seed");
     let last = ["generate", "--seed", "18446744073709551615"];
     assert!(run(&directory, &last, &[]).status.success());
 }
 
+/// What is meant may be another command's option, but only this one's is told.
 #[test]
-fn help_is_written_where_it_is_asked_for() {
-    let directory = directory("help");
-    let usage = run(&directory, &["help"], &[]).stdout;
-    let text = String::from_utf8_lossy(&usage);
-    assert!(text.starts_with("usage:\n") && text.ends_with(".\n"));
-    for command in ["replay", "make", "explain", "compare", "stored"] {
+fn a_mistyped_word_is_told_with_the_one_meant() {
+    for (words, expected) in [
+        (
+            &["explian", "file"][..],
+            "command explian; did you mean explain?",
+        ),
+        (&["--verison"], "option --verison; did you mean --version?"),
+        (
+            &["generate", "--sed=3"],
+            "option --sed; did you mean --seed?",
+        ),
+        (
+            &["counts", "--seed", "3"],
+            "option --seed; did you mean --seeds?",
+        ),
+        (
+            &["compare", "p", "--form", "3"],
+            "option --form; did you mean --from?",
+        ),
+        (
+            &["stored", "d", "--chek"],
+            "option --chek; did you mean --check?",
+        ),
+        (&["make", "text", "-o=j"], "option -o=j; did you mean -o?"),
+        (&["show", "--seed", "3"], "option --seed"),
+        (&["frobnicate"], "command frobnicate"),
+    ] {
+        assert_eq!(complaint(words), format!("yardstick: unknown {expected}"));
+    }
+}
+
+#[test]
+fn a_value_may_stand_behind_its_option() {
+    let directory = directory("values");
+    for (apart, joined) in [
+        (
+            &["generate", "--seed", "3", "--damaged"][..],
+            &["generate", "--damaged", "--seed=3"][..],
+        ),
+        (&["counts", "--seeds", "40"], &["counts", "--seeds=40"]),
+    ] {
+        let (one, other) = (run(&directory, apart, &[]), run(&directory, joined, &[]));
+        assert_eq!(one.status, other.status, "{joined:?}");
         assert!(
-            text.contains(&format!("\n  yardstick {command} ")),
-            "{command}"
+            !one.stdout.is_empty() && one.stdout == other.stdout,
+            "{joined:?}"
         );
     }
-    for words in [
-        &["--help"][..],
-        &["-h"],
-        &["help", "make"],
-        &["make", "--help"],
-        &["make", "-h"],
-        &["stored", "dir", "--help"],
-    ] {
-        let output = run(&directory, words, &[]);
-        assert!(output.status.success(), "{words:?}");
+}
+
+#[test]
+fn the_version_is_the_packages() {
+    let expected = format!("yardstick {}\n", env!("CARGO_PKG_VERSION"));
+    for words in [&["--version"][..], &["-V"], &["make", "--version"]] {
+        let output = run(Path::new("."), words, &[]);
         assert!(
-            output.stdout == usage && output.stderr.is_empty(),
+            output.status.success() && output.stderr.is_empty(),
+            "{words:?}"
+        );
+        assert_eq!(
+            String::from_utf8_lossy(&output.stdout),
+            expected,
             "{words:?}"
         );
     }
+}
+
+/// What is written where help is asked for.
+fn help(directory: &Path, words: &[&str]) -> String {
+    let output = run(directory, words, &[]);
+    assert!(output.status.success(), "{words:?}");
+    assert!(output.stderr.is_empty(), "{words:?}");
+    String::from_utf8(output.stdout).expect("it is UTF-8")
+}
+
+#[test]
+fn help_is_written_where_it_is_asked_for() {
+    let directory = directory("help");
+    let usage = help(&directory, &["help"]);
+    assert!(usage.starts_with("usage:\n") && usage.ends_with(".\n"));
+    for words in [&["--help"][..], &["-h"], &["--help", "--count=3"]] {
+        assert_eq!(help(&directory, words), usage, "{words:?}");
+    }
+    for command in yardstick::usage::COMMANDS {
+        let name = command.name;
+        let own = help(&directory, &["help", name]);
+        assert_eq!(own, format!("{}\n", command.help()));
+        for words in [
+            &[name, "--help"][..],
+            &[name, "-h"],
+            &["--help", name],
+            &[name, "file", "--count", "--help"],
+        ] {
+            assert_eq!(help(&directory, words), own, "{words:?}");
+        }
+    }
     assert!(names(&directory).is_empty());
+}
+
+/// Bad use of a command is told with how it is used, and an unknown command
+/// with the list.
+#[test]
+fn bad_use_says_what_good_use_is() {
+    let told = |words: &[&str]| {
+        let output = run(Path::new("."), words, &[]);
+        String::from_utf8(output.stderr).expect("it is UTF-8")
+    };
+    let expected = "yardstick: FILE is missing\nusage: yardstick make FILE [-o JOURNAL]\n";
+    assert_eq!(told(&["make"]), expected);
+    assert!(told(&["mkae"]).contains("\nusage:\n  yardstick replay [FILE]"));
 }
 
 /// Only the first 65536 bytes of a file count, as of standard input.
@@ -398,6 +495,32 @@ fn a_run_that_ends_early_is_told_and_shown() {
     assert_eq!(replayed.stdout, b"0 0 0\n1 8 0\n2 21 12\n");
 }
 
+/// A journal longer than what is read, whose records are sound, is told as one
+/// that does not run whole, and nothing says that it ends.
+#[test]
+fn a_journal_that_goes_on_is_told() {
+    let directory = directory("goes_on");
+    let mut text = "start 1 card 1 block\n".to_string();
+    text.push_str(&"order\n".repeat(21_841));
+    text.push_str("rejoin card 0\n");
+    let made = |text: &str| run(&directory, &["make", "-"], text.as_bytes()).stdout;
+    let (whole, longer) = (made(&text), made(&format!("{text}order\n")));
+    assert_eq!((whole.len(), longer.len()), (65_536, 65_539));
+    let told = "yardstick: standard input: past byte 65536 nothing is read: 3 bytes\n";
+    for command in JOURNAL_READERS {
+        let output = run(&directory, &[command, "-"], &whole);
+        assert!(
+            output.status.success() && output.stderr.is_empty(),
+            "{command}"
+        );
+        let output = run(&directory, &[command, "-"], &longer);
+        assert_eq!(output.status.code(), Some(1), "{command}");
+        assert_eq!(String::from_utf8_lossy(&output.stderr), told, "{command}");
+        let written = String::from_utf8_lossy(&output.stdout);
+        assert!(!written.contains("journal ends"), "{command}");
+    }
+}
+
 /// Whoever mixes up the two forms of a journal is told.
 #[test]
 fn a_text_is_no_journal() {
@@ -409,6 +532,14 @@ fn a_text_is_no_journal() {
         assert_eq!(output.status.code(), Some(1), "{command}");
         assert_eq!(String::from_utf8_lossy(&output.stderr), told, "{command}");
     }
+    let output = run(
+        &directory,
+        &["make", "-"],
+        &yardstick::generate::generate(3, false),
+    );
+    let told = "standard input:1:1: this is a journal, not a text: `show` turns it into one\n";
+    assert_eq!(output.status.code(), Some(1));
+    assert_eq!(String::from_utf8_lossy(&output.stderr), told);
 }
 
 #[test]
@@ -447,6 +578,26 @@ fn a_mistake_has_its_place_and_nothing_is_written() {
     assert!(told.starts_with("standard input:1:1: start, "));
     assert_eq!(names(&directory), ["old", "text"]);
     assert!(fs::read(directory.join("old")).is_ok_and(|found| found == b"as it was"));
+}
+
+#[test]
+fn all_mistakes_are_told_in_one_go() {
+    let directory = directory("mistakes");
+    let text = "\u{feff}orders\norder\n".repeat(2) + &"copy\n".repeat(30);
+    fs::write(directory.join("text"), text).expect("it is written");
+    let output = run(&directory, &["make", "text", "-o", "journal"], &[]);
+    assert_eq!(output.status.code(), Some(1));
+    let told = String::from_utf8_lossy(&output.stderr);
+    let lines: Vec<&str> = told.lines().collect();
+    assert_eq!(lines.len(), 21);
+    assert!(lines[0].starts_with("text:1:1: start, ") && lines[0].ends_with(" not `orders`"));
+    assert!(lines[1].starts_with("text:3:1: start, "));
+    assert_eq!(
+        lines[19],
+        "text:22:5: a number from 0 to 255 is expected, not the line's end"
+    );
+    assert_eq!(lines[20], "text: mistakes in more lines: 12");
+    assert_eq!(names(&directory), ["text"]);
 }
 
 #[cfg(unix)]
@@ -547,7 +698,7 @@ fn a_closed_output_is_quiet_and_a_full_one_is_told() {
 }
 
 /// Any bytes have status 0 or 1, and no colours where there is no terminal. A
-/// journal has status 1 exactly where its run ends early.
+/// journal has status 1 exactly where its run ends before it does.
 #[test]
 fn any_bytes_are_taken_or_refused() {
     let directory = directory("any_bytes");
@@ -557,7 +708,8 @@ fn any_bytes_are_taken_or_refused() {
         if round % 2 == 0 {
             bytes = yardstick::generate::generate(round, round % 4 == 0);
         }
-        let ends = yardstick::replay::Replay::new(&bytes).any(|line| line.is_last());
+        let is_longer = bytes.len() > JOURNAL_LIMIT;
+        let ends = is_longer || Replay::new(&bytes).any(|line| line.is_last());
         for command in READERS {
             let output = run(&directory, &[command, "-"], &bytes);
             let is_told = output.status.code() == Some(1) && !output.stderr.is_empty();

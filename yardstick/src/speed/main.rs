@@ -49,7 +49,7 @@ fn command() -> Result<(), String> {
     let mut arguments = Arguments::new(env::args_os().skip(1))?;
     let rounds = count(&mut arguments, "--rounds", DEFAULT_ROUNDS)?;
     let events = count(&mut arguments, "--events", DEFAULT_EVENTS)?;
-    if arguments.take_flag("--once") {
+    if arguments.take_flag("--once")? {
         let run = arguments.take_word("ENGINE")?;
         let journal = arguments.take_word("JOURNAL")?;
         arguments.end()?;
@@ -60,7 +60,7 @@ fn command() -> Result<(), String> {
 }
 
 /// The number after an option: 1 or more.
-fn count(arguments: &mut Arguments, option: &str, default: usize) -> Result<usize, String> {
+fn count(arguments: &mut Arguments, option: &'static str, default: usize) -> Result<usize, String> {
     let Some(number) = arguments.take_number(option)? else {
         return Ok(default);
     };

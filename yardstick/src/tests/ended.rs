@@ -3,7 +3,7 @@
 use crate::ended::early_end;
 use crate::generate::generate;
 use crate::replay::{replay, JOURNAL_LIMIT};
-use crate::script::{journal_of, load, order, start};
+use crate::script::{journal_of, load, order, rejoin, start};
 
 const HINT: &str = "; this looks like text: `make` turns it into a journal";
 
@@ -31,9 +31,26 @@ fn the_limit_is_told_where_it_cuts_a_record() {
     let orders = vec![order(); JOURNAL_LIMIT / 3];
     let journal = journal_of([start(1, 1)].into_iter().chain(orders));
     let cut = "byte 65535: refusal 20, the record is cut short";
-    let limit = "; past byte 65536 nothing is read";
+    let limit = "; past byte 65536 nothing is read: 8 bytes";
     assert_eq!(early_end(&journal), Some(format!("{cut}{limit}")));
     assert_eq!(early_end(&journal[..JOURNAL_LIMIT]).as_deref(), Some(cut));
+}
+
+/// A journal that runs whole as far as it is read, and goes on.
+#[test]
+fn the_limit_is_told_where_it_cuts_no_record() {
+    let orders = vec![order(); (JOURNAL_LIMIT - 13) / 3];
+    let records = [start(1, 1)].into_iter().chain(orders);
+    let mut journal = journal_of(records.chain([rejoin(0)]));
+    assert_eq!(journal.len(), JOURNAL_LIMIT);
+    assert_eq!(early_end(&journal), None);
+    journal.push(0x14);
+    let limit = "past byte 65536 nothing is read: 1 byte";
+    assert_eq!(early_end(&journal).as_deref(), Some(limit));
+    // Damage comes before the limit.
+    journal[9] = 0x99;
+    let damage = "byte 9: refusal 21, the tag is unknown";
+    assert_eq!(early_end(&journal).as_deref(), Some(damage));
 }
 
 /// Refusals that do not end the run are none of it.
@@ -54,6 +71,7 @@ fn text_in_place_of_a_journal_is_seen() {
     );
     assert!(has_hint(b"\n\t # x"));
     assert!(has_hint(b"ab"));
+    assert!(has_hint(b"\xEF\xBB\xBForder\n"));
     assert!(!has_hint(b"abc\0"));
     assert!(!has_hint(b""));
     let later = [journal_of([start(1, 1)]), b"order order".to_vec()].concat();

@@ -282,13 +282,29 @@ fn why_the_run_ends_is_told() {
     );
     let mut long = journal_of(vec![start(1, 1)]);
     long.extend(journal_of(vec![order(); JOURNAL_LIMIT / 3]));
-    let expected = "The run ends at byte 65535, with 1 byte left.\n\
+    let expected = "The run ends at byte 65535, with 9 bytes left.\n\
                     Past byte 65536 nothing is read: 8 bytes.\n";
     assert_eq!(end(&long), expected);
     let refused = explain(&journal_of([start(0, 1)]), Look::Plain);
     assert!(refused.contains(
         "  answer 14 0: refusal 14, cards are not 1 to 8 or blocks not 1 to 32\n  nothing changed\n"
     ));
+}
+
+/// The reading ends between two records, and the journal only where it is not
+/// longer.
+#[test]
+fn where_only_the_reading_ends_the_journal_does_not() {
+    let mut journal = journal_of(vec![start(1, 1)]);
+    journal.extend(journal_of(vec![order(); (JOURNAL_LIMIT - 13) / 3]));
+    journal.extend(journal_of([rejoin(0)]));
+    let whole = explain(&journal, Look::Plain);
+    assert!(whole.ends_with("The journal ends at byte 65536.\n"));
+    journal.extend(journal_of([order()]));
+    let longer = explain(&journal, Look::Plain);
+    let end = "The run ends at byte 65536, with 3 bytes left.\n\
+               Past byte 65536 nothing is read: 3 bytes.\n";
+    assert!(longer.ends_with(end) && !longer.contains("The journal ends"));
 }
 
 /// The bytes that are no record stand in its place, up to 16 of them.

@@ -46,10 +46,17 @@ const WORDS: [&str; 33] = [
     "\r\n",
 ];
 
-/// What `make` says of a text with a mistake.
+/// What `make` says of a text with mistakes, a line for each.
+fn mistakes(text: &[u8]) -> String {
+    make(text).expect_err("it has a mistake").lines("text")
+}
+
+/// What `make` says of a text with one mistake.
 fn mistake(text: &str) -> String {
-    let mistake = make(text.as_bytes()).expect_err(text);
-    mistake.to_string()
+    let told = mistakes(text.as_bytes());
+    let one = told.strip_prefix("text:").expect("the name comes first");
+    assert_eq!(one.lines().count(), 1, "{told}");
+    one.to_string()
 }
 
 /// Sees that `make` gives a journal again from its readable form.
@@ -137,13 +144,64 @@ fn what_is_quoted_is_short_and_can_be_seen() {
 
 #[test]
 fn text_that_is_not_utf_8_has_its_place() {
-    let mistake = make(b"order\n# \xC3\xA9 \xFF\n").expect_err("0xFF is in no UTF-8");
-    assert_eq!(mistake.to_string(), "2:5: the text is not UTF-8");
+    let told = mistakes(b"order\n# \xC3\xA9 \xFF\norders\n\xC3");
+    let lines: Vec<&str> = told.lines().collect();
+    assert_eq!(lines[0], "text:2:5: the text is not UTF-8");
+    assert!(lines[1].starts_with("text:3:1: start, load, "));
+    assert_eq!(lines[2..], ["text:4:1: the text is not UTF-8"]);
 }
 
 #[test]
-fn the_first_mistake_makes_no_journal() {
+fn one_mistake_makes_no_journal() {
     assert!(make(b"start 1 card 1 block\norder\norder order\n").is_err());
+    assert!(make(b"order order\nstart 1 card 1 block\norder\n").is_err());
+}
+
+/// The first of each line, in the order of the lines.
+#[test]
+fn every_line_with_a_mistake_is_told() {
+    let told = mistakes(b"deliver x y\norder\n  # x\ncopy\n\nload card 0 block 300");
+    let expected = "text:1:9: a number from 0 to 255 is expected, not `x`\n\
+                    text:4:5: a number from 0 to 255 is expected, not the line's end\n\
+                    text:6:19: a number from 0 to 255 is expected, not `300`";
+    assert_eq!(told, expected);
+}
+
+#[test]
+fn twenty_mistakes_are_told_and_the_others_counted() {
+    let told = |count| mistakes("copy\n".repeat(count).as_bytes());
+    assert_eq!(told(19).lines().count(), 19);
+    assert_eq!(told(20).lines().count(), 20);
+    assert!(
+        told(20).ends_with("\ntext:20:5: a number from 0 to 255 is expected, not the line's end")
+    );
+    let more = |count, more: &str| told(count) == format!("{}\n{more}", told(20));
+    assert!(more(21, "text: mistakes in more lines: 1"));
+    assert!(more(1_000, "text: mistakes in more lines: 980"));
+}
+
+/// The mark that editors put first is no character of the text.
+#[test]
+fn a_byte_order_mark_is_passed_over() {
+    let marked = |text: &str| [b"\xEF\xBB\xBF", text.as_bytes()].concat();
+    assert_eq!(make(&marked("order\n")), make(b"order\n"));
+    assert_eq!(make(&marked("")), Ok(Vec::new()));
+    let first = "text:1:7: the line's end is expected, not `1`";
+    assert_eq!(mistakes(&marked("order 1")), first);
+    // Only the first three bytes are one.
+    assert!(mistakes("order\n\u{feff}order".as_bytes()).starts_with("text:2:1: start, "));
+    assert!(mistakes(&marked("\u{feff}order")).ends_with("not `\\u{feff}order`"));
+}
+
+/// What is no text of this form at all has one mistake and not one a line.
+#[test]
+fn other_forms_are_told_in_a_line() {
+    for utf_16 in [&b"\xFF\xFEo\0\n\0o\0"[..], b"\xFE\xFF\0o\0\n\0o"] {
+        assert_eq!(mistakes(utf_16), "text:1:1: the text is UTF-16, not UTF-8");
+    }
+    let journal = journal_of([start(1, 1), load(10, 10), load(10, 10)]);
+    let told = "text:1:1: this is a journal, not a text: `show` turns it into one";
+    assert_eq!(mistakes(&journal), told);
 }
 
 /// What the other commands would not read is not made: the longest journal

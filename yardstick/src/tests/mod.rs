@@ -6,6 +6,7 @@ mod explain;
 mod formed;
 mod generated;
 mod handed;
+mod hints;
 mod history;
 mod journal;
 mod make;
@@ -21,6 +22,7 @@ mod show;
 mod states;
 mod stores;
 mod told;
+mod usage;
 mod words;
 
 use crate::chassis::Chassis;

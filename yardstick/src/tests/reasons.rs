@@ -9,6 +9,7 @@ use crate::journal::Record;
 use crate::picture::{page, Picture};
 use crate::reasons::{reason, refused};
 use crate::refusal::Refusal;
+use crate::replay::JOURNAL_LIMIT;
 use crate::run::Run;
 use crate::script::{ask, copy, deliver, drop_copy, journal_of, load, order, rejoin, start, store};
 use crate::table::{GETS, GETX, PUTX, S};
@@ -270,6 +271,11 @@ fn where_the_run_ends_the_bytes_are_told() {
     assert_eq!(
         after_start(&[0x11, 0, 6, 0, 0]),
         is("a record with tag 11 has 9 bytes, and this one is cut after 5")
+    );
+    let orders = journal_of(vec![order(); JOURNAL_LIMIT / 3]);
+    assert_eq!(
+        after_start(&orders),
+        is("a record has at least 3 bytes, and the reading of this one ends after 1")
     );
     assert_eq!(
         after_start(&[0x12, 1, 4, 0]),
