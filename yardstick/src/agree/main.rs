@@ -58,7 +58,7 @@ fn main() -> ExitCode {
 /// What the command line asks for.
 fn task() -> Result<Task, String> {
     let mut arguments = Arguments::new(env::args_os().skip(1))?;
-    if arguments.asks_for_help() {
+    if arguments.take_help() {
         return Ok(Task::Help);
     }
     let mut number = |option| arguments.take_number(option);

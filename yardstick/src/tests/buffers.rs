@@ -12,23 +12,27 @@ const SEEDS: u64 = 4_000;
 /// How many of them are of each kind at least.
 const OF_A_KIND: usize = 4;
 
-/// A kind of writing, by the buffer's size, the place and the record's length;
-/// none if no record has the tag.
-type Kind = (&'static str, fn(usize, usize, Option<usize>) -> bool);
+/// How many are of each kind that is at the edge between yes and no.
+const AT_THE_EDGE: usize = 250;
+
+/// A kind of writing, how many there are at least, and whether one is such, by
+/// the buffer's size, the place and the record's length; none if no record has
+/// the tag.
+type Kind = (&'static str, usize, fn(usize, usize, Option<usize>) -> bool);
 
 #[rustfmt::skip]
 const WRITINGS: [Kind; 11] = [
-    ("empty buffer", |size, place, _| size == 0 && place == 0),
-    ("past an empty buffer", |size, place, _| size == 0 && place > 0),
-    ("buffer too short", |size, place, length| place == 0 && length.is_some_and(|length| size < length)),
-    ("just fits", |size, place, length| length.is_some_and(|length| size.checked_sub(length) == Some(place))),
-    ("one byte short", |size, place, length| length.is_some_and(|length| place < size && place + length == size + 1)),
-    ("fits with room left", |size, place, length| length.is_some_and(|length| place < size && place + length < size)),
-    ("at the end", |size, place, _| size > 0 && place == size),
-    ("past the end", |size, place, length| place == size + 1 && length.is_some()),
-    ("the last place of all", |_, place, length| place == usize::MAX && length.is_some()),
-    ("behind the last place of all", |_, place, length| length.is_some_and(|length| place.checked_add(length).is_none())),
-    ("a long buffer", |size, place, _| size >= JOURNAL_LIMIT && place < size),
+    ("empty buffer", OF_A_KIND, |size, place, _| size == 0 && place == 0),
+    ("past an empty buffer", OF_A_KIND, |size, place, _| size == 0 && place > 0),
+    ("buffer too short", OF_A_KIND, |size, place, length| place == 0 && length.is_some_and(|length| size < length)),
+    ("just fits", AT_THE_EDGE, |size, place, length| length.is_some_and(|length| size.checked_sub(length) == Some(place))),
+    ("one byte short", AT_THE_EDGE, |size, place, length| length.is_some_and(|length| place < size && place + length == size + 1)),
+    ("fits with room left", OF_A_KIND, |size, place, length| length.is_some_and(|length| place < size && place + length < size)),
+    ("at the end", AT_THE_EDGE, |size, place, _| size > 0 && place == size),
+    ("past the end", OF_A_KIND, |size, place, length| place == size + 1 && length.is_some()),
+    ("the last place of all", OF_A_KIND, |_, place, length| place == usize::MAX && length.is_some()),
+    ("behind the last place of all", AT_THE_EDGE, |_, place, length| length.is_some_and(|length| place.checked_add(length).is_none())),
+    ("a long buffer", OF_A_KIND, |size, place, _| size >= JOURNAL_LIMIT && place < size),
 ];
 
 #[test]
@@ -43,12 +47,12 @@ fn every_kind_of_writing_is_drawn() {
         (buffer.len(), place, length)
     };
     let all: Vec<_> = (0..SEEDS).map(drawn).collect();
-    for (name, is) in WRITINGS {
+    for (name, least, is) in WRITINGS {
         let count = all
             .iter()
             .filter(|drawn| is(drawn.0, drawn.1, drawn.2))
             .count();
-        assert!(count >= OF_A_KIND, "{name}: {count}");
+        assert!(count >= least, "{name}: {count}");
     }
     for tag in TAGS.map(value_length) {
         let length = tag.map(|length| HEAD_LENGTH + length);

@@ -11,6 +11,7 @@ use crate::script::{ask, copy, deliver, drop_copy, load, order, rejoin, store};
 use crate::states::fabricate::fabricate;
 use crate::states::spoil::{draw_state, Form};
 use crate::table::{self, GETS, GETX, II_A, IM_AD, IS_AD, M, MI_A, PUTX, SM_AD, STATES};
+use crate::words::WORDS;
 
 /// How many seeds are drawn.
 const SEEDS: u64 = 4_000;
@@ -173,7 +174,7 @@ fn spoiled_states_are_refused_with_15_or_well_formed_after_all() {
 }
 
 /// Every event answers 15 and keeps the words.
-fn refused_by_all(words: &[u64; crate::words::WORDS], seed: u64) {
+fn refused_by_all(words: &[u64; WORDS], seed: u64) {
     let cell = [
         load(0, 0),
         store(0, 0, 1),
