@@ -41,24 +41,24 @@ int main(void)
     step("a chassis of two cards and one block", coherence_start(state, CARDS, 1), COHERENCE_DONE, 0);
 
     puts("\nThe reply to a request that is forgotten");
-    step("card 0 asks to store", coherence_ask(state, 0, BLOCK, COHERENCE_GETX, 0), COHERENCE_DONE, 0);
-    step("home grants it; the first reply is on its way", coherence_order(state), COHERENCE_DONE, COHERENCE_GRANTED);
+    step("card 0 asks to store", coherence_ask(state, 0, BLOCK, COHERENCE_KIND_GETX, 0), COHERENCE_DONE, 0);
+    step("home grants it; the first reply is on its way", coherence_order(state), COHERENCE_DONE, COHERENCE_ORDER_GRANTED);
     step("the network copies the reply", coherence_copy(state, 0), COHERENCE_DONE, 0);
     step("card 0 reconnects", coherence_rejoin(state, 0), COHERENCE_DONE, 0);
-    step("card 0 asks to store again", coherence_ask(state, 0, BLOCK, COHERENCE_GETX, 0), COHERENCE_DONE, 0);
-    step("home grants it; the second reply is on its way", coherence_order(state), COHERENCE_DONE, COHERENCE_GRANTED);
-    step("the first reply arrives late: stale", coherence_deliver(state, 0), COHERENCE_DONE, COHERENCE_STALE);
-    step("card 0 may not store yet", coherence_store(state, 0, BLOCK, ACCOUNT), COHERENCE_NO_RIGHT, 0);
-    step("so does its copy: stale", coherence_deliver(state, 0), COHERENCE_DONE, COHERENCE_STALE);
-    step("the second reply arrives: taken", coherence_deliver(state, 0), COHERENCE_DONE, COHERENCE_TAKEN);
+    step("card 0 asks to store again", coherence_ask(state, 0, BLOCK, COHERENCE_KIND_GETX, 0), COHERENCE_DONE, 0);
+    step("home grants it; the second reply is on its way", coherence_order(state), COHERENCE_DONE, COHERENCE_ORDER_GRANTED);
+    step("the first reply arrives late: stale", coherence_deliver(state, 0), COHERENCE_DONE, COHERENCE_DELIVERY_STALE);
+    step("card 0 may not store yet", coherence_store(state, 0, BLOCK, ACCOUNT), COHERENCE_REFUSED_NO_RIGHT, 0);
+    step("so does its copy: stale", coherence_deliver(state, 0), COHERENCE_DONE, COHERENCE_DELIVERY_STALE);
+    step("the second reply arrives: taken", coherence_deliver(state, 0), COHERENCE_DONE, COHERENCE_DELIVERY_TAKEN);
 
     puts("\nThe delete that is not carried out twice");
     step("card 0 marks account 7 for deletion", coherence_store(state, 0, BLOCK, ACCOUNT), COHERENCE_DONE, 0);
     step("card 0 carries it out and clears the mark", coherence_store(state, 0, BLOCK, 0), COHERENCE_DONE, 0);
     step("it marks account 7 once more, by mistake", coherence_store(state, 0, BLOCK, ACCOUNT), COHERENCE_DONE, 0);
     step("card 0 reconnects before home has settled a store", coherence_rejoin(state, 0), COHERENCE_DONE, 0);
-    step("card 1 asks to load", coherence_ask(state, 1, BLOCK, COHERENCE_GETS, 0), COHERENCE_DONE, 0);
-    step("home grants it", coherence_order(state), COHERENCE_DONE, COHERENCE_GRANTED);
-    step("the reply arrives: card 1 sees no mark to carry out", coherence_deliver(state, 0), COHERENCE_DONE, COHERENCE_TAKEN);
+    step("card 1 asks to load", coherence_ask(state, 1, BLOCK, COHERENCE_KIND_GETS, 0), COHERENCE_DONE, 0);
+    step("home grants it", coherence_order(state), COHERENCE_DONE, COHERENCE_ORDER_GRANTED);
+    step("the reply arrives: card 1 sees no mark to carry out", coherence_deliver(state, 0), COHERENCE_DONE, COHERENCE_DELIVERY_TAKEN);
     return EXIT_SUCCESS;
 }

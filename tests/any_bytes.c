@@ -18,6 +18,7 @@ enum { JOURNAL = 400, TEXT = 300, ROUNDS = 40000, STEPS = 60 };
 
 static uint64_t seed = 88172645463325252u;
 static unsigned long calls, refused;
+static uint64_t *seen;
 
 static uint32_t any(uint32_t below)
 {
@@ -59,6 +60,18 @@ static uint64_t happen(uint64_t *state, uint32_t event, const uint8_t *a, uint32
     }
 }
 
+/* One look with these arguments, into what is lent for it; any number names one. */
+static uint64_t look(const uint64_t *state, uint32_t what, const uint8_t *a)
+{
+    switch (what % 5) {
+    case 0: return coherence_counts(state, seen);
+    case 1: return coherence_message(state, a[0], seen);
+    case 2: return coherence_request(state, a[0], seen);
+    case 3: return coherence_cell(state, a[0], a[1], seen);
+    default: return coherence_home(state, a[0], seen);
+    }
+}
+
 /* Arguments: mostly small ones, which name what is there. */
 static void arguments(uint8_t *a)
 {
@@ -67,7 +80,29 @@ static void arguments(uint8_t *a)
         a[i] = (uint8_t)any(below);
 }
 
-/* An event on the state, and the same on a copy of it. */
+/* A look: the state stays as it is, a refusal keeps the numbers, and looks and events refuse the same states with 15. */
+static void try_look(const uint64_t *state, const uint64_t *before, int is_formed)
+{
+    uint8_t a[4];
+    uint32_t what = any(5);
+    uint64_t kept[COHERENCE_SEEN];
+    arguments(a);
+    for (int i = 0; i < COHERENCE_SEEN; i++)
+        kept[i] = seen[i] = any(UINT32_MAX);
+    uint64_t answer = look(state, what, a);
+    calls++;
+    if (memcmp(before, state, STATE_BYTES) != 0)
+        fail("a look changed the state");
+    if ((COHERENCE_REFUSAL(answer) == COHERENCE_REFUSED_ILL_FORMED) == is_formed)
+        fail("a look and an event take different words for a chassis");
+    if (COHERENCE_REFUSAL(answer) != COHERENCE_DONE) {
+        refused++;
+        if (COHERENCE_VALUE(answer) != 0 || memcmp(kept, seen, sizeof kept) != 0)
+            fail("a refused look has a value, or changed the numbers");
+    }
+}
+
+/* An event on the state, and the same on a copy of it; and a look before it. */
 static uint64_t try_event(uint64_t *state, uint64_t *copy, uint64_t *before)
 {
     uint8_t a[4];
@@ -77,9 +112,10 @@ static uint64_t try_event(uint64_t *state, uint64_t *copy, uint64_t *before)
     memcpy(copy, state, STATE_BYTES);
     uint64_t answer = happen(state, event, a, value);
     calls++;
+    try_look(copy, before, COHERENCE_REFUSAL(answer) != COHERENCE_REFUSED_ILL_FORMED);
     if (COHERENCE_REFUSAL(answer) != COHERENCE_DONE) {
         refused++;
-        if (COHERENCE_VALUE(answer) != 0 || COHERENCE_REFUSAL(answer) > COHERENCE_ILL_FORMED)
+        if (COHERENCE_VALUE(answer) != 0 || COHERENCE_REFUSAL(answer) > COHERENCE_REFUSED_ILL_FORMED)
             fail("a refusal that is not in the list, or with a value");
         if (memcmp(before, state, STATE_BYTES) != 0)
             fail("a refused event changed the state");
@@ -95,7 +131,7 @@ static void random_states(uint64_t *state, uint64_t *copy, uint64_t *before)
     for (int round = 0; round < ROUNDS / 10; round++) {
         for (size_t i = 0; i < COHERENCE_WORDS; i++)
             state[i] = any(2) ? any(9) : ((uint64_t)any(UINT32_MAX) << 32 | any(UINT32_MAX));
-        if (COHERENCE_REFUSAL(try_event(state, copy, before)) != COHERENCE_ILL_FORMED)
+        if (COHERENCE_REFUSAL(try_event(state, copy, before)) != COHERENCE_REFUSED_ILL_FORMED)
             fail("random words are taken for a chassis");
     }
 }
@@ -107,9 +143,9 @@ static void played_states(uint64_t *state, uint64_t *copy, uint64_t *before)
         uint64_t made = coherence_start(state, (uint8_t)any(10), (uint8_t)(any(2) ? any(4) : any(35)));
         for (int i = 0; i < STEPS; i++) {
             uint64_t answer = try_event(state, copy, before);
-            if (made != 0 && COHERENCE_REFUSAL(answer) != COHERENCE_ILL_FORMED)
+            if (made != 0 && COHERENCE_REFUSAL(answer) != COHERENCE_REFUSED_ILL_FORMED)
                 fail("a refused start made a chassis");
-            if (made == 0 && (COHERENCE_REFUSAL(answer) == COHERENCE_ILL_FORMED || COHERENCE_REFUSAL(answer) == COHERENCE_IMPOSSIBLE))
+            if (made == 0 && (COHERENCE_REFUSAL(answer) == COHERENCE_REFUSED_ILL_FORMED || COHERENCE_REFUSAL(answer) == COHERENCE_REFUSED_IMPOSSIBLE))
                 fail("13 or 15 in a run from a start");
         }
         state[any(COHERENCE_WORDS)] = any(300);
@@ -122,19 +158,19 @@ static void played_states(uint64_t *state, uint64_t *copy, uint64_t *before)
 static void due_fields(uint64_t *due, uint8_t tag, const uint8_t *a, uint32_t value)
 {
     memset(due, 0, COHERENCE_FIELDS * sizeof *due);
-    due[COHERENCE_TAG] = tag;
-    if (tag == COHERENCE_DELIVER || tag == COHERENCE_COPY)
-        due[COHERENCE_POSITION] = a[0];
-    else if (tag != COHERENCE_ORDER)
-        due[COHERENCE_CARD] = a[0];
-    if (tag == COHERENCE_OPENING || tag == COHERENCE_LOAD || tag == COHERENCE_STORE || tag == COHERENCE_ASK || tag == COHERENCE_DROP)
-        due[COHERENCE_BLOCK] = a[1];
-    if (tag == COHERENCE_ASK) {
-        due[COHERENCE_KIND] = a[2];
-        due[COHERENCE_MASK] = a[3];
+    due[COHERENCE_FIELD_TAG] = tag;
+    if (tag == COHERENCE_TAG_DELIVER || tag == COHERENCE_TAG_COPY)
+        due[COHERENCE_FIELD_POSITION] = a[0];
+    else if (tag != COHERENCE_TAG_ORDER)
+        due[COHERENCE_FIELD_CARD] = a[0];
+    if (tag == COHERENCE_TAG_OPENING || tag == COHERENCE_TAG_LOAD || tag == COHERENCE_TAG_STORE || tag == COHERENCE_TAG_ASK || tag == COHERENCE_TAG_DROP)
+        due[COHERENCE_FIELD_BLOCK] = a[1];
+    if (tag == COHERENCE_TAG_ASK) {
+        due[COHERENCE_FIELD_KIND] = a[2];
+        due[COHERENCE_FIELD_MASK] = a[3];
     }
-    if (tag == COHERENCE_STORE)
-        due[COHERENCE_STORED] = value;
+    if (tag == COHERENCE_TAG_STORE)
+        due[COHERENCE_FIELD_VALUE] = value;
 }
 
 /* What was written at a place is read back there, field by field. */
@@ -200,7 +236,7 @@ static void runs(uint64_t *state, uint64_t *before, uint8_t *journal, uint8_t *t
         uint64_t standing[COHERENCE_STANDING] = {0, 0, 0};
         for (size_t i = 0; i < JOURNAL; i++)
             journal[i] = (uint8_t)any(256);
-        coherence_write(journal, JOURNAL, &place, COHERENCE_OPENING, 3, 3, 0, 0, 0, 0);
+        coherence_write(journal, JOURNAL, &place, COHERENCE_TAG_OPENING, 3, 3, 0, 0, 0, 0);
         while (any(40) != 0) {
             uint8_t a[4];
             arguments(a);
@@ -223,10 +259,10 @@ static void runs(uint64_t *state, uint64_t *before, uint8_t *journal, uint8_t *t
                     fail("a refused run changed something");
                 break;
             }
-            if (standing[COHERENCE_WRITTEN] > size || memcmp(old, text, TEXT - size) != 0)
+            if (standing[COHERENCE_STANDING_WRITTEN] > size || memcmp(old, text, TEXT - size) != 0)
                 fail("text outside of what was lent");
-            if (memcmp(old + TEXT - size + standing[COHERENCE_WRITTEN], text + TEXT - size + standing[COHERENCE_WRITTEN],
-                       size - standing[COHERENCE_WRITTEN]) != 0)
+            if (memcmp(old + TEXT - size + standing[COHERENCE_STANDING_WRITTEN], text + TEXT - size + standing[COHERENCE_STANDING_WRITTEN],
+                       size - standing[COHERENCE_STANDING_WRITTEN]) != 0)
                 fail("text behind what was written was touched");
             if (COHERENCE_VALUE(answer) == 0) {
                 again(state, before, journal, standing, text);
@@ -241,6 +277,7 @@ int main(void)
     uint64_t *state = lend(STATE_BYTES), *copy = lend(STATE_BYTES), *before = malloc(STATE_BYTES);
     uint64_t *fields = lend(COHERENCE_FIELDS * sizeof *fields);
     uint8_t *journal = lend(JOURNAL), *text = lend(TEXT);
+    seen = lend(COHERENCE_SEEN * sizeof *seen);
     if (before == NULL)
         fail("no memory");
     random_states(state, copy, before);

@@ -15,7 +15,7 @@ enum { STACK = 1 << 16, PAINT = 0xa5, ROUNDS = 3000, STEPS = 40, JOURNAL = 400, 
 static unsigned char stack[STACK];
 static ucontext_t here, there;
 static uint64_t state[COHERENCE_WORDS];
-static uint64_t fields[COHERENCE_FIELDS], standing[COHERENCE_STANDING];
+static uint64_t fields[COHERENCE_FIELDS], standing[COHERENCE_STANDING], seen[COHERENCE_SEEN];
 static uint8_t journal[JOURNAL], text[TEXT], a[5];
 static size_t place;
 static uint32_t value;
@@ -41,18 +41,24 @@ static void call_copy(void) { coherence_copy(state, a[0]); }
 static void call_rejoin(void) { coherence_rejoin(state, a[0]); }
 static void call_read(void) { coherence_read(journal, JOURNAL, &place, fields); }
 static void call_write(void) { coherence_write(journal, JOURNAL, &place, a[4], a[0], a[1], a[2], a[3], value, a[0]); }
+static void call_counts(void) { coherence_counts(state, seen); }
+static void call_message(void) { coherence_message(state, a[0], seen); }
+static void call_request(void) { coherence_request(state, a[0], seen); }
+static void call_cell(void) { coherence_cell(state, a[0], a[1], seen); }
+static void call_home(void) { coherence_home(state, a[0], seen); }
 static void call_run(void) { coherence_run(state, journal, JOURNAL, standing, text, TEXT); }
 
 static const struct {
     const char *name;
     void (*call)(void);
 } CALLS[] = {
-    {"nothing", call_nothing}, {"start", call_start},     {"load", call_load}, {"store", call_store},   {"drop", call_drop},
-    {"ask", call_ask},         {"order", call_order},     {"deliver", call_deliver}, {"copy", call_copy}, {"rejoin", call_rejoin},
-    {"read", call_read},       {"write", call_write},     {"run", call_run},
+    {"nothing", call_nothing}, {"start", call_start},   {"load", call_load},       {"store", call_store},     {"drop", call_drop},
+    {"ask", call_ask},         {"order", call_order},   {"deliver", call_deliver}, {"copy", call_copy},       {"rejoin", call_rejoin},
+    {"counts", call_counts},   {"message", call_message}, {"request", call_request}, {"cell", call_cell},     {"home", call_home},
+    {"read", call_read},       {"write", call_write},   {"run", call_run},
 };
 
-enum { COUNT = sizeof CALLS / sizeof *CALLS, START = 1, FIRST_EVENT = 2, READ = 10, WRITE = 11, RUN = 12 };
+enum { COUNT = sizeof CALLS / sizeof *CALLS, START = 1, FIRST_EVENT = 2, READ = 15, WRITE = 16, RUN = 17 };
 
 /* How many bytes of the painted stack a call touches. */
 static size_t touched(void (*call)(void))
@@ -84,7 +90,7 @@ static void fill_journal(void)
 {
     place = 0;
     memset(standing, 0, sizeof standing);
-    coherence_write(journal, JOURNAL, &place, COHERENCE_OPENING, 4, 4, 0, 0, 0, 0);
+    coherence_write(journal, JOURNAL, &place, COHERENCE_TAG_OPENING, 4, 4, 0, 0, 0, 0);
     for (int i = 0; i < STEPS; i++) {
         arguments();
         coherence_write(journal, JOURNAL, &place, a[4], a[0], a[1], a[2], a[3], value, a[0]);

@@ -5,6 +5,7 @@ use crate::chassis::Chassis;
 use crate::events::Event;
 use crate::fields::{fields_of, record_of, Fields};
 use crate::journal::{read_record, write_record, Record};
+use crate::looks::{Look, Seen};
 use crate::refusal::Refusal;
 use crate::words::{unused_words, WORDS};
 
@@ -30,6 +31,15 @@ pub trait Engine {
             Record::Opening { cards, blocks } => self.start(words, cards, blocks),
             Record::Event(event) => self.apply(words, event),
         }
+    }
+
+    /// Looks at the words of a state and sets the numbers seen: as this program
+    /// sees them, where an engine does not look itself.
+    fn look(&self, words: &[u64; WORDS], look: Look, seen: &mut Seen) -> Answer {
+        answer(Chassis::handed_in(words).and_then(|chassis| {
+            *seen = chassis.look(look)?;
+            Ok(0)
+        }))
     }
 
     /// Reads the record at a place, sets its numbers and moves the place behind

@@ -1,7 +1,8 @@
 //! A second engine for the chassis, written from the rule paper alone, and the
 //! tools that compare another program with it: journals picked by a seed, a
 //! readable form of a journal and the way back from it, what each record of a
-//! journal changes, counts of what journals reach, stored journals.
+//! journal changes, counts of what journals reach, stored journals, and states
+//! that no journal reaches.
 
 #![forbid(unsafe_code)]
 
@@ -27,6 +28,7 @@ pub mod handed;
 pub mod hints;
 pub mod journal;
 pub mod layout;
+pub mod looks;
 pub mod make;
 pub mod marked;
 pub mod mistakes;

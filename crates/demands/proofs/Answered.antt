@@ -2,12 +2,12 @@
 use Prim.Native.Nat.{ℕ, _+_, _*_, _/_, _%_}
 use native.Mathlib.Omega.{arith}
 use mathlib.Core.Bool.{true, false, cond}
-use mathlib.Core.List.{List, _++_}
+use mathlib.Core.List.{List, [], _∷_, _++_}
 use mathlib.Core.Path.{_≡_, refl, sym, ap, subst, _∙_}
-use mathlib.Core.Logic.{_≢_}
+use mathlib.Core.Logic.{_≢_, inl, inr}
 use lib.ListN.{length, drop}
 use Rattle.rules.specs.Chassis.{Chassis, fresh}
-use Rattle.rules.specs.Answers.{refusalOf, valueOf, Result, refusedBy, FirstHolds, NoneHolds}
+use Rattle.rules.specs.Answers.{refusalOf, valueOf, Result, Reason, refusedBy, FirstHolds, NoneHolds}
 use Rattle.rules.specs.Formed.{sizes}
 use Rattle.rules.specs.Events.{reasons, effect, EventFits, step, start}
 use Rattle.rules.specs.declared.Answer.{Answer}
@@ -33,12 +33,16 @@ use Rattle.words.proofs.Does.{step-act}
 use Rattle.words.proofs.Keeps.{step-says}
 use Rattle.engine.specs.Promise.{Starts, Answers}
 use Rattle.engine.specs.Running.{fit, standing, ran, Runs}
+use Rattle.engine.specs.Looking.{Look, lookReasons, shown, unless, looks}
+use Rattle.engine.specs.declared.Seen.{Seen}
+use Rattle.engine.specs.declared.Seen.the-variants as Seen
 use Rattle.engine.specs.declared.run.Reached.{Reached}
 use Rattle.engine.specs.declared.run.Ran.{Ran}
 use Rattle.engine.specs.declared.run.Ran.the-variants as Ran
 use Rattle.engine.proofs.Marked.{start-means}
 use Rattle.firmware.specs.Halves.{half, Says}
 use Rattle.firmware.specs.Journals.{foundNumber, fieldsAfter, Writes, reachedIn, ranNumber, standingAfter}
+use Rattle.firmware.specs.Looks.{seenNumber, seenAfter}
 use Rattle.firmware.specs.declared.Named.{Named}
 use Rattle.firmware.specs.declared.Named.the-variants.{One, Unknown}
 use Rattle.firmware.proofs.Unique.{halves-tell, values-fit}
@@ -74,14 +78,30 @@ done-0 : (r : Answer) → IsDone r → refusalOf r ≡ 0
 done-0 (Done v) h = refl
 done-0 (Refused x) h = absurd h
 
+-- A look: the first reason that holds refuses it
+
+look-stops : (rs : List Reason) (s : Seen) (x : Refusal) → FirstHolds rs x → unless rs s ≡ Seen.Refused x
+unfolding unless
+look-stops [] s x h = absurd h
+look-stops (r ∷ rs) s x (inl h) = rw (h .0) (ap Seen.Refused (h .1))
+look-stops (r ∷ rs) s x (inr h) = rw (h .0) (look-stops rs s x (h .1))
+
+look-goes : (rs : List Reason) (s : Seen) → NoneHolds rs → unless rs s ≡ s
+unfolding unless
+look-goes [] s h = refl
+look-goes (r ∷ rs) s h = rw (h .0) (look-goes rs s (h .1))
+
 pub exactly-when : Exactly-when
-unfolding start refusedBy
+unfolding start refusedBy looks
 exactly-when = record {
   ill-formed = λ w e r w′ a f. ill a f .0;
   refused = λ w e r w′ a f x h. decided a f _ (refuses (view w) (reasons (view w) e) (effect (view w) e) x h);
   accepted = λ w e r w′ a f h. ap refusalOf (decided a f _ (accepts (view w) (reasons (view w) e) (effect (view w) e) h)) ∙ done-0 (effect (view w) e .answer) (effect-done (view w) e);
   started = λ cards blocks r w′ s. s .answer ∙ test (sizes cards blocks) (λ h. rw h) (λ h. rw h);
   written = λ buffer at bytes r buffer′ p. p .answer;
+  look-ill-formed = λ w q f. rw f;
+  look-refused = λ w q f x h. rw f (look-stops (lookReasons (view w) q) (shown (view w) q) x h);
+  look-shown = λ w q f h. rw f (look-goes (lookReasons (view w) q) (shown (view w) q) h);
 }
 
 -- What is refused leaves what is lent
@@ -138,6 +158,14 @@ stands-left l (Ran.More q n) h = absurd (h refl)
 stands-left l (Ran.Over q n) h = absurd (h refl)
 stands-left l (Ran.Refused x) h = ((λ z. absurd (omega (arith, z))), refl)
 
+seen-left : (l : List ℕ) (s : Seen) → seenNumber s / half ≢ 0 → seenAfter l s ≡ l
+seen-left l (Seen.Counts n) h = absurd (h refl)
+seen-left l (Seen.Message m) h = absurd (h refl)
+seen-left l (Seen.Request r) h = absurd (h refl)
+seen-left l (Seen.Cell x) h = absurd (h refl)
+seen-left l (Seen.Home o) h = absurd (h refl)
+seen-left l (Seen.Refused x) h = refl
+
 pub refused-leaves : Refused-leaves
 unfolding refusedRun
 refused-leaves = record {
@@ -156,6 +184,7 @@ refused-leaves = record {
       let k = stands-left l (h .ran) (λ d. z (ap (λ m. m / half) (h .told) ∙ d)) in
       let r = run-left w journal (reachedIn l) t (h .ran) w′ t′ (h .kept) (k .0) in
       (r .0, h .stands ∙ k .1, r .1);
+  c-look = λ w q l n l′ h z. h .numbers ∙ seen-left l (looks w q) (λ d. z (ap (λ m. m / half) (h .answer) ∙ d));
 }
 
 -- The rules' answers, and the chassis that the words say

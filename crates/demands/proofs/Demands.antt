@@ -18,6 +18,7 @@ use Rattle.firmware.proofs.Unique.{
   reads-unique,
   writes-unique,
   run-says-unique,
+  shows-unique,
 }
 use Rattle.bench.proofs.Replaying.{replays-unique}
 use Rattle.demands.specs.Demands.{Nothing-second, Demand-1, Words-tell, Demand-2, Demand-3, Marked-sequences, All-demands}
@@ -37,6 +38,7 @@ nothing-second = record {
   c-read = reads-unique;
   c-write = writes-unique;
   c-run = run-says-unique;
+  c-look = shows-unique;
   replay = replays-unique;
 }
 

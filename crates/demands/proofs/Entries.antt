@@ -11,6 +11,11 @@ use Rattle.engine.proofs.events.copy.Met as events-copy
 use Rattle.engine.proofs.events.rejoin.Met as events-rejoin
 use Rattle.engine.proofs.events.step.Met as events-step
 use Rattle.engine.proofs.run.run.Met as run
+use Rattle.engine.proofs.looks.counts.Met as looks-counts
+use Rattle.engine.proofs.looks.message.Met as looks-message
+use Rattle.engine.proofs.looks.request.Met as looks-request
+use Rattle.engine.proofs.looks.cell.Met as looks-cell
+use Rattle.engine.proofs.looks.home.Met as looks-home
 use Rattle.journal.proofs.reading.read.Met as reading-read
 use Rattle.journal.proofs.reading.place_after.Met as reading-place-after
 use Rattle.journal.proofs.reader.new.Met as reader-new
@@ -35,6 +40,12 @@ use Rattle.firmware.proofs.chassis.coherence_rejoin.Met as coherence-rejoin
 use Rattle.firmware.proofs.journals.coherence_read.Met as coherence-read
 use Rattle.firmware.proofs.journals.coherence_write.Met as coherence-write
 use Rattle.firmware.proofs.journals.coherence_run.Met as coherence-run
+use Rattle.firmware.proofs.looks.coherence_counts.Met as coherence-counts
+use Rattle.firmware.proofs.looks.coherence_message.Met as coherence-message
+use Rattle.firmware.proofs.looks.coherence_request.Met as coherence-request
+use Rattle.firmware.proofs.looks.coherence_cell.Met as coherence-cell
+use Rattle.firmware.proofs.looks.coherence_home.Met as coherence-home
+use Rattle.firmware.proofs.version.coherence_version.Met as coherence-version
 use Rattle.bench.proofs.replay.Met as bench-replay
 use Rattle.rules.proofs.table.loads.Met as table-loads
 use Rattle.rules.proofs.table.stores.Met as table-stores
@@ -68,6 +79,11 @@ every-entry = record {
   rejoin = λ M. events-rejoin.met;
   step = λ M. events-step.met;
   run = λ M. run.met;
+  look-counts = λ M. looks-counts.met;
+  look-message = λ M. looks-message.met;
+  look-request = λ M. looks-request.met;
+  look-cell = λ M. looks-cell.met;
+  look-home = λ M. looks-home.met;
   read = λ M. reading-read.met;
   place-after = λ M. reading-place-after.met;
   reader-new = λ M. reader-new.met;
@@ -92,6 +108,12 @@ every-entry = record {
   c-read = λ M. coherence-read.met;
   c-write = λ M. coherence-write.met;
   c-run = λ M. coherence-run.met;
+  c-counts = λ M. coherence-counts.met;
+  c-message = λ M. coherence-message.met;
+  c-request = λ M. coherence-request.met;
+  c-cell = λ M. coherence-cell.met;
+  c-home = λ M. coherence-home.met;
+  c-version = λ M. coherence-version.met;
   replay = λ M. bench-replay.met;
   loads = λ M. table-loads.met;
   stores = λ M. table-stores.met;

@@ -36,10 +36,14 @@ use Rattle.journal.specs.declared.Found.the-variants.{Whole, End, Damaged}
 use Rattle.journal.specs.declared.Written.{Written}
 use Rattle.journal.specs.declared.Written.the-variants.{UpTo, NoRoom}
 use Rattle.engine.specs.Promise.{Starts, Answers}
+use Rattle.engine.specs.Looking.{looks}
+use Rattle.engine.specs.declared.Seen.{Seen}
+use Rattle.engine.specs.declared.Seen.the-variants as Seen
 use Rattle.engine.specs.declared.run.Ran.{Ran}
 use Rattle.engine.specs.declared.run.Ran.the-variants as Ran
 use Rattle.firmware.specs.Halves.{half, Says}
 use Rattle.firmware.specs.Journals.{foundNumber, ranNumber, Writes}
+use Rattle.firmware.specs.Looks.{seenNumber}
 use Rattle.firmware.specs.declared.Named.{Named}
 use Rattle.firmware.specs.declared.Named.the-variants.{One, Unknown}
 use Rattle.firmware.proofs.Unique.{halves-tell, values-fit}
@@ -127,6 +131,15 @@ ran (Ran.More q n) = refl
 ran (Ran.Over q n) = refl
 ran (Ran.Refused x) = upper _ (refusalNo x) refl (refusal-listed x)
 
+seen : (s : Seen) → Listed (seenNumber s / half)
+unfolding oneOf
+seen (Seen.Counts n) = refl
+seen (Seen.Message m) = refl
+seen (Seen.Request r) = refl
+seen (Seen.Cell x) = refl
+seen (Seen.Home h) = refl
+seen (Seen.Refused x) = upper _ (refusalNo x) refl (refusal-listed x)
+
 writes : (buffer : List ℕ) (place : ℕ) (x : Named) (n : ℕ) (buffer′ : List ℕ) (place′ : ℕ) → Writes buffer place x n buffer′ place′ → Listed (n / half)
 writes buffer place (One one) n buffer′ place′ h = upper n (writtenNo (h .0)) (h .2) (written (h .0))
 writes buffer place Unknown n buffer′ place′ h = upper n (damageNo UnknownTag) (h .0) (damage-listed UnknownTag)
@@ -144,4 +157,5 @@ by-number = record {
   c-read = λ journal place l n place′ l′ h. subst (λ m. Listed (m / half)) (sym (h .answer)) (found (readAt journal place));
   c-write = writes;
   c-run = λ w journal l t n w′ l′ t′ h. subst (λ m. Listed (m / half)) (sym (h .told)) (ran (h .ran));
+  c-look = λ w q l n l′ h. subst (λ m. Listed (m / half)) (sym (h .answer)) (seen (looks w q));
 }

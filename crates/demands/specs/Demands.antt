@@ -1,9 +1,10 @@
 -- What the customer asked for, in the customer's words and order: a reader begins here.
 --
 -- `Every-entry` says what each public function promises: Starts and Answers (engine/specs/Promise), Runs (engine/specs/Running), readAt and
--- Puts (journal/specs), for C Says, Reads, Writes and RunSays (firmware/specs), and for the bench Replays (bench/specs). All else is claimed
--- of whatever keeps these promises. What they say is in the rules (rules/specs), the words of a chassis (words/specs) and the records
--- (journal/specs), each in the paper's words. EventFits and Bytes say of numbers what the kinds u32 and u8 say of the arguments.
+-- Puts (journal/specs), looks (engine/specs/Looking), for C Says, Reads, Writes, RunSays and Shows (firmware/specs), and for the bench
+-- Replays (bench/specs). All else is claimed of whatever keeps these promises. What they say is in the rules (rules/specs), the words of a
+-- chassis (words/specs) and the records (journal/specs), each in the paper's words. EventFits and Bytes say of numbers what the kinds u32
+-- and u8 say of the arguments.
 use Prim.Native.Nat.{ℕ, _+_, _/_, _%_}
 use mathlib.Core.Bool.{true, false, cond}
 use mathlib.Core.List.{List, [], _∷_, _++_}
@@ -54,12 +55,17 @@ use Rattle.words.specs.Claims.{View-words, All-words, Formed-says, Start-forms,
 use Rattle.engine.specs.Promise.{Starts, Answers, Starts-unique, Answers-unique}
 use Rattle.engine.specs.Running.{Runs, Runs-unique, Next-fit, Runs-end, Runs-join, Over-stays}
 use Rattle.engine.specs.Calls.{Calls-coherent, Marked-come}
+use Rattle.engine.specs.Looking.{Look, counts, message, request, cell, home, lookReasons, shown, looks}
+use Rattle.engine.specs.declared.Seen.{Seen}
+use Rattle.engine.specs.declared.Seen.the-variants as Seen
 use Rattle.engine.specs.declared.run.Reached.{Reached}
 use Rattle.engine.specs.declared.run.Ran.the-variants as Ran
 use Rattle.firmware.specs.Halves.{half, Says}
 use Rattle.firmware.specs.Fields.{named}
 use Rattle.firmware.specs.Journals.{Reads, Writes, RunSays}
-use Rattle.firmware.specs.Claims.{Fields-name, Start-says-unique, Event-says-unique, Reads-unique, Writes-unique, Run-says-unique}
+use Rattle.firmware.specs.Looks.{Shows}
+use Rattle.firmware.specs.Sizes.{headerVersion}
+use Rattle.firmware.specs.Claims.{Fields-name, Start-says-unique, Event-says-unique, Reads-unique, Writes-unique, Run-says-unique, Shows-unique}
 use Rattle.firmware.specs.declared.Named.{Named}
 use Rattle.bench.specs.Replaying.{Replays, Replays-unique}
 use Rattle.engine.proofs.start.start as start-start
@@ -74,6 +80,11 @@ use Rattle.engine.proofs.events.copy as events-copy
 use Rattle.engine.proofs.events.rejoin as events-rejoin
 use Rattle.engine.proofs.events.step as events-step
 use Rattle.engine.proofs.run.run as run-run
+use Rattle.engine.proofs.looks.counts as looks-counts
+use Rattle.engine.proofs.looks.message as looks-message
+use Rattle.engine.proofs.looks.request as looks-request
+use Rattle.engine.proofs.looks.cell as looks-cell
+use Rattle.engine.proofs.looks.home as looks-home
 use Rattle.journal.proofs.reading.read as reading-read
 use Rattle.journal.proofs.reading.place_after as reading-place-after
 use Rattle.journal.proofs.reader.new as reader-new
@@ -98,6 +109,12 @@ use Rattle.firmware.proofs.chassis.coherence_rejoin as coherence-rejoin
 use Rattle.firmware.proofs.journals.coherence_read as coherence-read
 use Rattle.firmware.proofs.journals.coherence_write as coherence-write
 use Rattle.firmware.proofs.journals.coherence_run as coherence-run
+use Rattle.firmware.proofs.looks.coherence_counts as coherence-counts
+use Rattle.firmware.proofs.looks.coherence_message as coherence-message
+use Rattle.firmware.proofs.looks.coherence_request as coherence-request
+use Rattle.firmware.proofs.looks.coherence_cell as coherence-cell
+use Rattle.firmware.proofs.looks.coherence_home as coherence-home
+use Rattle.firmware.proofs.version.coherence_version as coherence-version
 use Rattle.bench.proofs.replay as bench-replay
 use Rattle.rules.proofs.table.loads as table-loads
 use Rattle.rules.proofs.table.stores as table-stores
@@ -124,7 +141,7 @@ pub record Every-entry : Type 2 where
   pub start : Keeps start-start.ended start-start.Symbol.routine (λ κs a r end. Starts (a .0) (a .1 .0) (r .answer) (r .state))
   pub start-in : Keeps start-in.ended start-in.Symbol.routine (λ κs a r end. Starts (a .1 .0) (a .1 .1 .0) r (now (end .0)))
   -- the events, and any event
-  pub load : Keeps events-load.ended events-load.Symbol.routine (λ κs a r end. Answers (now (a .0)) (Load (a .1 .0) (a .1 .1 .0)) r (now (end .0)))
+  pub load : Keeps events-load.ended events-load.Symbol.routine (λ κs a r end. Answers (now (a .0)) (Load (a .1 .0) (a .1 .1 .0)) r (now (a .0)))
   pub store : Keeps events-store.ended events-store.Symbol.routine (λ κs a r end. Answers (now (a .0)) (Store (a .1 .0) (a .1 .1 .0) (a .1 .1 .1 .0)) r (now (end .0)))
   pub drop : Keeps events-drop.ended events-drop.Symbol.routine (λ κs a r end. Answers (now (a .0)) (Drop (a .1 .0) (a .1 .1 .0)) r (now (end .0)))
   pub ask : Keeps events-ask.ended events-ask.Symbol.routine (λ κs a r end. Answers (now (a .0)) (Ask (a .1 .0) (a .1 .1 .0) (a .1 .1 .1 .0) (a .1 .1 .1 .1 .0)) r (now (end .0)))
@@ -135,6 +152,12 @@ pub record Every-entry : Type 2 where
   pub step : Keeps events-step.ended events-step.Symbol.routine (λ κs a r end. Answers (now (a .0)) (a .1 .0) r (now (end .0)))
   -- a piece of a run over a journal
   pub run : Keeps run-run.ended run-run.Symbol.routine (λ κs a r end. Runs (now (a .0)) (now (a .1 .0)) (a .1 .1 .0) (now (a .1 .1 .1 .0)) r (now (end .0)) (now (end .1 .1 .1 .0)))
+  -- looks, on words that are lent to be read only
+  pub look-counts : Keeps looks-counts.ended looks-counts.Symbol.routine (λ κs a r end. r ≡ looks (now (a .0)) counts)
+  pub look-message : Keeps looks-message.ended looks-message.Symbol.routine (λ κs a r end. r ≡ looks (now (a .0)) (message (a .1 .0)))
+  pub look-request : Keeps looks-request.ended looks-request.Symbol.routine (λ κs a r end. r ≡ looks (now (a .0)) (request (a .1 .0)))
+  pub look-cell : Keeps looks-cell.ended looks-cell.Symbol.routine (λ κs a r end. r ≡ looks (now (a .0)) (cell (a .1 .0) (a .1 .1 .0)))
+  pub look-home : Keeps looks-home.ended looks-home.Symbol.routine (λ κs a r end. r ≡ looks (now (a .0)) (home (a .1 .0)))
   -- a record read, and the place to read at next; by a reader too
   pub read : Keeps reading-read.ended reading-read.Symbol.routine (λ κs a r end. r ≡ readAt (now (a .0)) (a .1 .0))
   pub place-after : Keeps reading-place-after.ended reading-place-after.Symbol.routine (λ κs a r end. r ≡ placeAfter (a .1 .0) (a .0))
@@ -152,7 +175,7 @@ pub record Every-entry : Type 2 where
   pub written-no : Keeps numbers-written-no.ended numbers-written-no.Symbol.routine (λ κs a r end. r ≡ writtenNo (a .0))
   -- the exports for C: n is the number that is answered
   pub c-start : Keeps coherence-start.ended coherence-start.Symbol.routine (λ κs a n end. Says (λ r. Starts (a .1 .0) (a .1 .1 .0) r (now (end .0))) n)
-  pub c-load : Keeps coherence-load.ended coherence-load.Symbol.routine (λ κs a n end. Says (λ r. Answers (now (a .0)) (Load (a .1 .0) (a .1 .1 .0)) r (now (end .0))) n)
+  pub c-load : Keeps coherence-load.ended coherence-load.Symbol.routine (λ κs a n end. Says (λ r. Answers (now (a .0)) (Load (a .1 .0) (a .1 .1 .0)) r (now (a .0))) n)
   pub c-store : Keeps coherence-store.ended coherence-store.Symbol.routine (λ κs a n end. Says (λ r. Answers (now (a .0)) (Store (a .1 .0) (a .1 .1 .0) (a .1 .1 .1 .0)) r (now (end .0))) n)
   pub c-drop : Keeps coherence-drop.ended coherence-drop.Symbol.routine (λ κs a n end. Says (λ r. Answers (now (a .0)) (Drop (a .1 .0) (a .1 .1 .0)) r (now (end .0))) n)
   pub c-ask : Keeps coherence-ask.ended coherence-ask.Symbol.routine (λ κs a n end. Says (λ r. Answers (now (a .0)) (Ask (a .1 .0) (a .1 .1 .0) (a .1 .1 .1 .0) (a .1 .1 .1 .1 .0)) r (now (end .0))) n)
@@ -163,6 +186,12 @@ pub record Every-entry : Type 2 where
   pub c-read : Keeps coherence-read.ended coherence-read.Symbol.routine (λ κs a n end. Reads (now (a .0)) (now (a .1 .0)) (now (a .1 .1 .0)) n (now (end .1 .0)) (now (end .1 .1 .0)))
   pub c-write : Keeps coherence-write.ended coherence-write.Symbol.routine (λ κs a n end. Writes (now (a .0)) (now (a .1 .0)) (named (a .1 .1 .0) (a .1 .1 .1 .0) (a .1 .1 .1 .1 .0) (a .1 .1 .1 .1 .1 .0) (a .1 .1 .1 .1 .1 .1 .0) (a .1 .1 .1 .1 .1 .1 .1 .0) (a .1 .1 .1 .1 .1 .1 .1 .1 .0)) n (now (end .0)) (now (end .1 .0)))
   pub c-run : Keeps coherence-run.ended coherence-run.Symbol.routine (λ κs a n end. RunSays (now (a .0)) (now (a .1 .0)) (now (a .1 .1 .0)) (now (a .1 .1 .1 .0)) n (now (end .0)) (now (end .1 .1 .0)) (now (end .1 .1 .1 .0)))
+  pub c-counts : Keeps coherence-counts.ended coherence-counts.Symbol.routine (λ κs a n end. Shows (now (a .0)) counts (now (a .1 .0)) n (now (end .1 .0)))
+  pub c-message : Keeps coherence-message.ended coherence-message.Symbol.routine (λ κs a n end. Shows (now (a .0)) (message (a .1 .0)) (now (a .1 .1 .0)) n (now (end .1 .1 .0)))
+  pub c-request : Keeps coherence-request.ended coherence-request.Symbol.routine (λ κs a n end. Shows (now (a .0)) (request (a .1 .0)) (now (a .1 .1 .0)) n (now (end .1 .1 .0)))
+  pub c-cell : Keeps coherence-cell.ended coherence-cell.Symbol.routine (λ κs a n end. Shows (now (a .0)) (cell (a .1 .0) (a .1 .1 .0)) (now (a .1 .1 .1 .0)) n (now (end .1 .1 .1 .0)))
+  pub c-home : Keeps coherence-home.ended coherence-home.Symbol.routine (λ κs a n end. Shows (now (a .0)) (home (a .1 .0)) (now (a .1 .1 .0)) n (now (end .1 .1 .0)))
+  pub c-version : Keeps coherence-version.ended coherence-version.Symbol.routine (λ κs a n end. n ≡ headerVersion)
   -- a replay through the operating system, which decides how much is read and taken; of its calls the contracts of `libc` are assumed
   pub replay : Keeps bench-replay.ended bench-replay.Symbol.routine (λ κs a r end. Replays (now (end .1 .1 .0)) r)
   -- the columns of the card state table
@@ -207,6 +236,7 @@ pub record By-number : Type 0 where
   pub c-read : (journal : List ℕ) (place : ℕ) (l : List ℕ) (n place′ : ℕ) (l′ : List ℕ) → Reads journal place l n place′ l′ → Listed (n / half)
   pub c-write : (buffer : List ℕ) (place : ℕ) (x : Named) (n : ℕ) (buffer′ : List ℕ) (place′ : ℕ) → Writes buffer place x n buffer′ place′ → Listed (n / half)
   pub c-run : (w journal l t : List ℕ) (n : ℕ) (w′ l′ t′ : List ℕ) → RunSays w journal l t n w′ l′ t′ → Listed (n / half)
+  pub c-look : (w : List ℕ) (q : Look) (l : List ℕ) (n : ℕ) (l′ : List ℕ) → Shows w q l n l′ → Listed (n / half)
 
 -- the first reason of the event's list that holds, and no other, refuses it; 15 comes before all, 14 at Start, 24 at writing. For reading,
 -- readAt is the list of 20 to 23 itself; a run refuses with 15 where what it is handed is not `fit`
@@ -219,6 +249,9 @@ pub record Exactly-when : Type 0 where
   pub started : (cards blocks : ℕ) (r : Answer) (w′ : List ℕ) → Starts cards blocks r w′ → r ≡ cond (sizes cards blocks) (Done 0) (Refused NoSuchSize)
   pub written : (buffer : List ℕ) (at : ℕ) (bytes : List ℕ) (r : Written) (buffer′ : List ℕ) → Puts buffer at bytes r buffer′
       → r ≡ cond (fits buffer at bytes) (UpTo (at + length bytes)) NoRoom
+  pub look-ill-formed : (w : List ℕ) (q : Look) → formed w ≡ false → looks w q ≡ Seen.Refused IllFormed
+  pub look-refused : (w : List ℕ) (q : Look) → formed w ≡ true → (x : Refusal) → FirstHolds (lookReasons (view w) q) x → looks w q ≡ Seen.Refused x
+  pub look-shown : (w : List ℕ) (q : Look) → formed w ≡ true → NoneHolds (lookReasons (view w) q) → looks w q ≡ shown (view w) q
 
 -- what is refused leaves all that is lent as it was; Start alone makes the words of no chassis then, and so does a run that is to start
 pub record Refused-leaves : Type 0 where
@@ -234,6 +267,7 @@ pub record Refused-leaves : Type 0 where
       → Writes buffer place x n buffer′ place′ → n / half ≢ 0 → (buffer′ ≡ buffer) × (place′ ≡ place)
   pub c-run : (w journal l t : List ℕ) (n : ℕ) (w′ l′ t′ : List ℕ)
       → RunSays w journal l t n w′ l′ t′ → n / half ≢ 0 → (w′ ≡ w) × (l′ ≡ l) × (t′ ≡ t)
+  pub c-look : (w : List ℕ) (q : Look) (l : List ℕ) (n : ℕ) (l′ : List ℕ) → Shows w q l n l′ → n / half ≢ 0 → l′ ≡ l
 
 -- no second answer, and no second content of what is lent, keeps a promise: a claim for each shape; an equation may be one of several, for
 -- the fields of an answer
@@ -248,6 +282,7 @@ pub record Nothing-second : Type 1 where
   pub c-read : Reads-unique
   pub c-write : Writes-unique
   pub c-run : Run-says-unique
+  pub c-look : Shows-unique
   pub replay : Replays-unique
 
 pub record Demand-1 : Type 2 where

@@ -1,4 +1,4 @@
--- The proofs: each event's ways to end, then runs over a journal and calls in a row.
+-- The proofs: each event's ways to end, then runs over a journal, calls in a row, and looks.
 pub mod Promised
 pub mod Rights
 pub mod Asked
@@ -9,3 +9,4 @@ pub mod Went
 pub mod Joined
 pub mod Calls
 pub mod Marked
+pub mod Looked

@@ -27,11 +27,14 @@ pub fn step(state: &mut [u64; WORDS], event: Event) -> Answer
     Answer::Refused(Refusal::IllFormed)
 }
 
-// A card reads its cell's value.
-pub fn load(state: &mut [u64; WORDS], card: u8, block: u8) -> Answer
-    ensures { λ r. ⌜ Answers (now (state .entry)) (Load card block) r (now (state .exit)) ⌝ }
+// A card reads its cell's value, and nothing changes.
+pub fn load(state: &[u64; WORDS], card: u8, block: u8) -> Answer
+    ensures { λ r. ⌜ Answers (now (state .entry)) (Load card block) r (now (state .entry)) ⌝ }
 {
-    step(state, Event::Load { card, block })
+    if is_formed(state) {
+        return cells::load(state, card, block);
+    }
+    Answer::Refused(Refusal::IllFormed)
 }
 
 // A card writes its cell's value.

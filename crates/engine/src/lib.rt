@@ -6,6 +6,7 @@ mod fields;
 mod formed;
 mod judge;
 mod lists;
+pub mod looks;
 mod mask;
 mod masks;
 mod order;
@@ -16,3 +17,29 @@ pub mod run;
 mod sees;
 pub mod start;
 mod turns;
+
+use rules::Cell;
+use rules::Home;
+use rules::Message;
+use rules::OrderNo;
+use rules::Refusal;
+use rules::Request;
+
+// How much there is in a chassis, and the last order number given.
+pub struct Counts {
+    pub cards: u64,
+    pub blocks: u64,
+    pub waiting: u64,
+    pub pooled: u64,
+    pub last: OrderNo,
+}
+
+// What a look shows, or why it shows nothing.
+pub enum Seen {
+    Counts(Counts),
+    Message(Message),
+    Request(Request),
+    Cell(Cell),
+    Home(Home),
+    Refused(Refusal),
+}

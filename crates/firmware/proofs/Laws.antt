@@ -14,10 +14,13 @@ use Rattle.journal.specs.declared.Record.{Record}
 use Rattle.journal.specs.declared.Record.the-variants.{Opening, Happens}
 use Rattle.journal.specs.declared.Written.{Written}
 use Rattle.engine.specs.Running.{Runs}
+use Rattle.engine.specs.Looking.{Look, looks}
+use Rattle.engine.specs.declared.Seen.{Seen}
 use Rattle.engine.specs.declared.run.Ran.{Ran}
 use Rattle.firmware.specs.Halves.{half}
 use Rattle.firmware.specs.Fields.{fields, named}
 use Rattle.firmware.specs.Journals.{foundNumber, fieldsAfter, Reads, Writes, reachedIn, ranNumber, standingAfter, RunSays}
+use Rattle.firmware.specs.Looks.{seenNumber, seenAfter, Shows}
 use Rattle.firmware.specs.Claims.{Fields-name}
 use Rattle.firmware.specs.declared.Named.{Named}
 use Rattle.firmware.specs.declared.Named.the-variants.{One, Unknown}
@@ -73,3 +76,12 @@ run-says w j l t n w′ l′ t′ r q e h answer stands = record {
   told = answer ∙ ap ranNumber (sym e);
   stands = stands ∙ ap (standingAfter l) (sym e);
 }
+
+-- what a look shows, once it is known what is seen
+pub showed : (s t : Seen) → s ≡ t → (n : ℕ) (l l′ : List ℕ) → n ≡ seenNumber t → l′ ≡ seenAfter l t → (n ≡ seenNumber s) × (l′ ≡ seenAfter l s)
+showed s t e n l l′ a b = (a ∙ ap seenNumber (sym e), b ∙ ap (seenAfter l) (sym e))
+
+-- and what an export of it shows
+pub shows : (w : List ℕ) (q : Look) (s : Seen) → s ≡ looks w q → (l : List ℕ) (n : ℕ) (l′ : List ℕ) → (n ≡ seenNumber s) × (l′ ≡ seenAfter l s)
+    → Shows w q l n l′
+shows w q s e l n l′ h = record { answer = h .0 ∙ ap seenNumber e; numbers = h .1 ∙ ap (seenAfter l) e }

@@ -26,6 +26,7 @@ use Rattle.firmware.specs.Claims.{
   Reads-unique,
   Writes-unique,
   Run-says-unique,
+  Shows-unique,
 }
 use Rattle.firmware.specs.declared.Named.the-variants.{One, Unknown}
 
@@ -72,3 +73,6 @@ pub run-says-unique : Run-says-unique
 run-says-unique w j l t n m w₁ w₂ l₁ l₂ t₁ t₂ a b =
     let u = runs-unique w j (reachedIn l) t (a .ran) (b .ran) w₁ w₂ t₁ t₂ (a .kept) (b .kept) in
     (a .told ∙ ap ranNumber (u .0) ∙ sym (b .told), u .1, a .stands ∙ ap (standingAfter l) (u .0) ∙ sym (b .stands), u .2)
+
+pub shows-unique : Shows-unique
+shows-unique w q l n m l₁ l₂ a b = (one-answer _ _ n m (a .answer) (b .answer), one-answer _ _ l₁ l₂ (a .numbers) (b .numbers))

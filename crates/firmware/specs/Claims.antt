@@ -10,11 +10,13 @@ use Rattle.journal.specs.Text.{mostLine}
 use Rattle.journal.specs.declared.Record.{Record}
 use Rattle.words.specs.Layout.{allWords}
 use Rattle.engine.specs.Promise.{Starts, Answers}
+use Rattle.engine.specs.Looking.{Look}
 use Rattle.engine.specs.declared.run.Reached.{Reached}
 use Rattle.engine.specs.declared.run.Ran.the-variants.{More}
 use Rattle.firmware.specs.Halves.{half, oneNumber, Says}
 use Rattle.firmware.specs.Fields.{fields, named}
 use Rattle.firmware.specs.Journals.{standingAfter, Reads, Writes, RunSays}
+use Rattle.firmware.specs.Looks.{Shows}
 use Rattle.firmware.specs.Sizes.{headerWords, headerFields, headerStanding, headerLine}
 use Rattle.firmware.specs.declared.Named.{Named}
 use Rattle.firmware.specs.declared.Named.the-variants.{One}
@@ -63,3 +65,6 @@ Writes-unique = (buffer : List ℕ) (place : ℕ) (x : Named) (n m : ℕ) (b₁ 
 abbrev pub Run-says-unique : Type 0
 Run-says-unique = (w journal l t : List ℕ) (n m : ℕ) (w₁ w₂ l₁ l₂ t₁ t₂ : List ℕ) → RunSays w journal l t n w₁ l₁ t₁ → RunSays w journal l t m w₂ l₂ t₂
     → (n ≡ m) × (w₁ ≡ w₂) × (l₁ ≡ l₂) × (t₁ ≡ t₂)
+
+abbrev pub Shows-unique : Type 0
+Shows-unique = (w : List ℕ) (q : Look) (l : List ℕ) (n m : ℕ) (l₁ l₂ : List ℕ) → Shows w q l n l₁ → Shows w q l m l₂ → (n ≡ m) × (l₁ ≡ l₂)

@@ -2,5 +2,6 @@
 pub mod Halves
 pub mod Fields
 pub mod Journals
+pub mod Looks
 pub mod Sizes
 pub mod Claims

@@ -1,5 +1,9 @@
--- The sizes that include/coherence.h names: how much is lent to the exported functions.
+-- The version and the sizes that include/coherence.h names: how much is lent to the exported functions.
 use Prim.Native.Nat.{ℕ}
+
+-- 1.0.0: major * 65536 + minor * 256 + patch
+abbrev pub headerVersion : ℕ
+headerVersion = 65536
 
 -- the words of a chassis
 abbrev pub headerWords : ℕ
@@ -12,6 +16,10 @@ headerFields = 7
 -- the numbers that say where a run stands
 abbrev pub headerStanding : ℕ
 headerStanding = 3
+
+-- the numbers that a look shows
+abbrev pub headerSeen : ℕ
+headerSeen = 5
 
 -- the longest line
 abbrev pub headerLine : ℕ

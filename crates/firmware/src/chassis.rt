@@ -15,10 +15,10 @@ pub extern "C" fn coherence_start(state: &mut [u64; WORDS], cards: u8, blocks: u
     one_number(start_in(state, cards, blocks))
 }
 
-// A card reads its cell's value.
+// A card reads its cell's value, and nothing changes.
 #[no_mangle]
-pub extern "C" fn coherence_load(state: &mut [u64; WORDS], card: u8, block: u8) -> u64
-    ensures { λ n. ⌜ Says (λ r. Answers (now (state .entry)) (Load card block) r (now (state .exit))) n ⌝ }
+pub extern "C" fn coherence_load(state: &[u64; WORDS], card: u8, block: u8) -> u64
+    ensures { λ n. ⌜ Says (λ r. Answers (now (state .entry)) (Load card block) r (now (state .entry))) n ⌝ }
 {
     one_number(events::load(state, card, block))
 }

@@ -3,6 +3,8 @@ pub mod chassis;
 mod fields;
 mod halves;
 pub mod journals;
+pub mod looks;
+pub mod version;
 
 use journal::Record;
 

@@ -9,13 +9,16 @@ use yardstick::chassis::Chassis;
 use yardstick::generate::generate;
 use yardstick::journal::Record;
 use yardstick::layout::same_words;
+use yardstick::looks::Look;
 use yardstick::make::make;
+use yardstick::random::Random;
 use yardstick::replay::{counted, replay, Line};
 use yardstick::run::{Run, Seen};
 use yardstick::show::show;
+use yardstick::states::same_look;
 use yardstick::words::{unused_words, WORDS};
 
-use crate::firmware;
+use crate::firmware::{self, Firmware};
 
 /// What stands in every word before the first Start: it takes any words.
 const ANY_WORD: u64 = 0xDEAD_BEEF_DEAD_BEEF;
@@ -72,6 +75,7 @@ fn check_words(journal: &[u8]) -> Result<u64, String> {
         }
         tell(&mut told, &seen);
         same_words(&state, &words_after(told.as_ref(), &seen.line))
+            .and_then(|()| same_looks(&state, told.as_ref(), number))
             .map_err(|what| format!("record {number}: {what}"))?;
         number += 1;
         if seen.line.is_last() {
@@ -82,6 +86,17 @@ fn check_words(journal: &[u8]) -> Result<u64, String> {
         Some(_) => Err(format!("record {number}: the safe engine sees the end")),
         None => Ok(number),
     }
+}
+
+/// Looks at the words by both engines: a few things of the chassis, others after each record.
+fn same_looks(state: &[u64; WORDS], told: Option<&Chassis>, number: u64) -> Result<(), String> {
+    let Some(chassis) = told else {
+        return same_look(&Firmware, state, Look::Counts);
+    };
+    let mut random = Random::new(number);
+    chassis.looks(&mut random).into_iter().try_for_each(|look| {
+        same_look(&Firmware, state, look).map_err(|what| format!("{look:?}: {what}"))
+    })
 }
 
 /// Makes the changes told of a record: the whole chassis at Start, which has no other record before it.

@@ -8,6 +8,7 @@ use yardstick::fields::{
     record_of, Fields, BLOCK, CARD, FIELDS, KIND, MASK, POSITION, STORED, TAG,
 };
 use yardstick::journal::Record;
+use yardstick::looks::{Look, Seen};
 use yardstick::refusal::Refusal;
 use yardstick::words::WORDS;
 
@@ -19,7 +20,7 @@ const STANDING: usize = 3;
 #[link(name = "firmware", kind = "static")]
 extern "C" {
     fn coherence_start(state: *mut u64, cards: u8, blocks: u8) -> u64;
-    fn coherence_load(state: *mut u64, card: u8, block: u8) -> u64;
+    fn coherence_load(state: *const u64, card: u8, block: u8) -> u64;
     fn coherence_store(state: *mut u64, card: u8, block: u8, value: u32) -> u64;
     fn coherence_drop(state: *mut u64, card: u8, block: u8) -> u64;
     fn coherence_ask(state: *mut u64, card: u8, block: u8, kind: u8, mask: Mask) -> u64;
@@ -27,6 +28,11 @@ extern "C" {
     fn coherence_deliver(state: *mut u64, position: u8) -> u64;
     fn coherence_copy(state: *mut u64, position: u8) -> u64;
     fn coherence_rejoin(state: *mut u64, card: u8) -> u64;
+    fn coherence_counts(state: *const u64, seen: *mut u64) -> u64;
+    fn coherence_message(state: *const u64, position: u8, seen: *mut u64) -> u64;
+    fn coherence_request(state: *const u64, position: u8, seen: *mut u64) -> u64;
+    fn coherence_cell(state: *const u64, card: u8, block: u8, seen: *mut u64) -> u64;
+    fn coherence_home(state: *const u64, block: u8, seen: *mut u64) -> u64;
     fn coherence_read(journal: *const u8, size: usize, place: *mut usize, fields: *mut u64) -> u64;
     fn coherence_write(
         buffer: *mut u8,
@@ -80,6 +86,20 @@ impl Engine for Firmware {
                 Event::Deliver { position } => coherence_deliver(state, position),
                 Event::Copy { position } => coherence_copy(state, position),
                 Event::Rejoin { card } => coherence_rejoin(state, card),
+            }
+        })
+    }
+
+    fn look(&self, words: &[u64; WORDS], look: Look, seen: &mut Seen) -> Answer {
+        let (state, seen) = (words.as_ptr(), seen.as_mut_ptr());
+        // SAFETY: the state and the numbers seen are of the sizes that the header names.
+        halves(unsafe {
+            match look {
+                Look::Counts => coherence_counts(state, seen),
+                Look::Message { position } => coherence_message(state, position, seen),
+                Look::Request { position } => coherence_request(state, position, seen),
+                Look::Cell { card, block } => coherence_cell(state, card, block, seen),
+                Look::Home { block } => coherence_home(state, block, seen),
             }
         })
     }

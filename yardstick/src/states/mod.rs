@@ -12,6 +12,8 @@ mod on_states;
 pub mod spoil;
 mod tried;
 
+pub use on_states::same_look;
+
 use std::fmt::Debug;
 use std::ops::Range;
 

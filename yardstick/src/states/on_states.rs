@@ -11,10 +11,14 @@ use crate::events::Event;
 use crate::handed::wrong_with;
 use crate::journal::Record;
 use crate::layout::same_words;
+use crate::looks::{Look, Seen};
 use crate::random::Random;
 use crate::words::WORDS;
 
-/// A Start and each event, all on the same words.
+/// What stands in the numbers before a look.
+const KEPT: Seen = [u64::MAX, 1, 2, 3, 4];
+
+/// A Start and each event, and looks, all on the same words.
 pub(super) fn meet_on_state(
     proved: &dyn Engine,
     random: &mut Random,
@@ -26,6 +30,10 @@ pub(super) fn meet_on_state(
         let answer = same_answer_and_words(proved, &state.words, record)
             .map_err(|what| format!("{}, {record}: {what}", described(&state)))?;
         met.add_answer(subject(record, handed_in.as_ref()), answer);
+    }
+    for look in state.chassis.looks(random) {
+        same_look(proved, &state.words, look)
+            .map_err(|what| format!("{}, {look:?}: {what}", described(&state)))?;
     }
     met.add_state(handed_in.is_some());
     if let Some(alone) = wrong_alone(&state) {
@@ -57,6 +65,18 @@ fn same_answer_and_words(
     same("the answer", answer, due)?;
     same_words(&one, &other)?;
     Ok(due)
+}
+
+/// A look by both engines: the answer and the numbers seen, which a refusal keeps.
+pub fn same_look(proved: &dyn Engine, words: &[u64; WORDS], look: Look) -> Result<(), String> {
+    let (mut one, mut other): (Seen, Seen) = (KEPT, KEPT);
+    let answer = proved.look(words, look, &mut one);
+    let due = Safe.look(words, look, &mut other);
+    same("the answer", answer, due)?;
+    match one == other {
+        true => Ok(()),
+        false => Err(format!("{one:?} is seen, and {other:?} is due")),
+    }
 }
 
 /// What a state is like, for a message.

@@ -9,6 +9,7 @@ mod handed;
 mod hints;
 mod history;
 mod journal;
+mod looks;
 mod make;
 mod marked;
 mod meet;
