@@ -12,9 +12,11 @@ FUNCTION = re.compile(r'^(?:pub(?:\(crate\))? )?(?:extern "C" )?fn (\w+)')
 # What the prover says where a fact fails, as against a proof that no longer has the code's form: no name that the proof uses is gone,
 # and what differs is not the code that a walk by hand goes through. A note on a proof, such as of its trial runs, is no failure of its own.
 FACT = re.compile(
-    r"the two (?:types|sides) (?:first differ|differ only|are)|expected type|does not follow from what it read|give a proof of that|no proof of|it is not proved that"
+    r"the two (?:types|sides) (?:first differ|differ|are)|expected type|does not follow from what it read|give a proof of that|no proof of|it is not proved that"
 )
 FORM = re.compile(r"^`walk`:|^note: |has no field|can be named from here")
+# Two sides that the prover compared late, on the lines behind an error.
+LATE = re.compile(r"^  ≟ .*\n  does not hold", re.M)
 # A lemma that fails since another did.
 RESTS = re.compile(r"^`([^`]+)`: `([^`]+)` was not admitted")
 # An error of a proof, and a note on a function that the prover walks by itself, with its place in the crate.
@@ -105,7 +107,12 @@ def line_of(text, part):
 
 def said(log):
     """What the prover said of places of the crate."""
-    return [Said(found[1], int(found[2]), found[3]) for line in log.split("\n") if (found := SAID.match(line))]
+    lines, all_said = log.split("\n"), []
+    for number, line in enumerate(lines):
+        if found := SAID.match(line):
+            late = LATE.match("\n".join(lines[number + 1: number + 3]))
+            all_said.append(Said(found[1], int(found[2]), found[3] + (" the two sides differ" if late else "")))
+    return all_said
 
 
 def facts(log):
