@@ -16,7 +16,8 @@
  * The state is COHERENCE_WORDS words. There is no other: no heap, no global variable, no lock, and nothing is needed from outside but
  * memcpy, memmove and memset. So a call may run in an interrupt, and any number at a time on different states; on one state the caller
  * sees to it that no call begins while another has not ended, but for those that take the state as const. Each call on a state reads
- * every word of it once, to see that it is well formed, and an order at most some hundred words more; no call waits.
+ * every word of it once, to see that it is well formed; then an order or a delivery reads at most some hundreds more, as the line or the
+ * pool closes up, and a rejoin, which may close the line up 64 times, at most some 20,000. No call waits.
  *
  * Every function takes any input, ends, and answers one number: the refusal's number, or 0, in the upper 32 bits, and the value in the
  * lower 32 (COHERENCE_REFUSAL, COHERENCE_VALUE); the value is 0 where nothing else is said. A refusal changes nothing of what is lent;

@@ -272,6 +272,27 @@ static void runs(uint64_t *state, uint64_t *before, uint8_t *journal, uint8_t *t
     }
 }
 
+/* Every refusal of the list and every outcome has a text of its own, and no other number has one. */
+static void texts(void)
+{
+    const char *(*const tables[])(uint32_t) = {coherence_refusal_text, coherence_order_text, coherence_delivery_text};
+    static const unsigned due[] = {21, 4, 2};
+    for (int table = 0; table < 3; table++) {
+        unsigned named = 0;
+        for (uint32_t number = 0; number < 300; number++) {
+            const char *text = tables[table](number);
+            if (strcmp(text, "unknown") == 0)
+                continue;
+            named++;
+            for (uint32_t other = 0; other < number; other++)
+                if (strcmp(text, tables[table](other)) == 0)
+                    fail("two numbers have one text");
+        }
+        if (named != due[table])
+            fail("not every number that is due has a text");
+    }
+}
+
 int main(void)
 {
     uint64_t *state = lend(STATE_BYTES), *copy = lend(STATE_BYTES), *before = malloc(STATE_BYTES);
@@ -280,6 +301,7 @@ int main(void)
     seen = lend(COHERENCE_SEEN * sizeof *seen);
     if (before == NULL)
         fail("no memory");
+    texts();
     random_states(state, copy, before);
     played_states(state, copy, before);
     records(journal, fields);
