@@ -33,14 +33,8 @@ pub trait Engine {
         }
     }
 
-    /// Looks at the words of a state and sets the numbers seen: as this program
-    /// sees them, where an engine does not look itself.
-    fn look(&self, words: &[u64; WORDS], look: Look, seen: &mut Seen) -> Answer {
-        answer(Chassis::handed_in(words).and_then(|chassis| {
-            *seen = chassis.look(look)?;
-            Ok(0)
-        }))
-    }
+    /// Looks at the words of a state and sets the numbers seen.
+    fn look(&self, words: &[u64; WORDS], look: Look, seen: &mut Seen) -> Answer;
 
     /// Reads the record at a place, sets its numbers and moves the place behind
     /// it.
@@ -68,6 +62,13 @@ impl Engine for Safe {
             let value = chassis.apply(event)?;
             *words = chassis.words();
             Ok(value)
+        }))
+    }
+
+    fn look(&self, words: &[u64; WORDS], look: Look, seen: &mut Seen) -> Answer {
+        answer(Chassis::handed_in(words).and_then(|chassis| {
+            *seen = chassis.look(look)?;
+            Ok(0)
         }))
     }
 

@@ -7,6 +7,7 @@ use crate::fields::{Fields, KIND, TAG};
 use crate::handed::wrong_with;
 use crate::journal::Record;
 use crate::layout::pool_at;
+use crate::looks::{Look, Seen};
 use crate::script::order;
 use crate::states::meet;
 use crate::states::met::{wrong_names, Met};
@@ -29,10 +30,14 @@ type Written = (Vec<u8>, usize, Answer);
 /// What a reading leaves: the numbers, the place and the answer.
 type Read = (Fields, usize, Answer);
 
+/// What a look leaves: the numbers seen and the answer.
+type Looked = (Seen, Answer);
+
 /// What is wrong: it gets what was there before, and changes what is left.
 type WrongRun = fn(&[u64; WORDS], Record, &mut Run);
 type WrongWriting = fn(usize, &mut Written);
 type WrongReading = fn(&Fields, usize, &mut Read);
+type WrongLook = fn(&Seen, Look, &mut Looked);
 
 /// This program's engine with something wrong.
 #[derive(Clone, Copy)]
@@ -40,6 +45,7 @@ struct Wrong {
     run: WrongRun,
     write: WrongWriting,
     read: WrongReading,
+    look: WrongLook,
 }
 
 /// Nothing wrong.
@@ -47,6 +53,7 @@ const RIGHT: Wrong = Wrong {
     run: |_, _, _| {},
     write: |_, _| {},
     read: |_, _, _| {},
+    look: |_, _, _| {},
 };
 
 impl Wrong {
@@ -68,6 +75,15 @@ impl Engine for Wrong {
 
     fn apply(&self, words: &mut [u64; WORDS], event: Event) -> Answer {
         self.after(words, Record::Event(event))
+    }
+
+    fn look(&self, words: &[u64; WORDS], look: Look, seen: &mut Seen) -> Answer {
+        let before = *seen;
+        let answer = Safe.look(words, look, seen);
+        let mut left = (*seen, answer);
+        (self.look)(&before, look, &mut left);
+        *seen = left.0;
+        left.1
     }
 
     fn read(&self, journal: &[u8], place: &mut usize, fields: &mut Fields) -> Answer {
@@ -92,6 +108,32 @@ impl Engine for Wrong {
 
 /// Something wrong, with what is told of it.
 type Planted<T> = (&'static str, T);
+
+/// Wrong at a look.
+const WRONG_LOOKS: [Planted<WrongLook>; 5] = [
+    ("Counts: [", |_, look, left| {
+        if look == Look::Counts && left.1 .0 == 0 {
+            left.0.swap(2, 3);
+        }
+    }),
+    ("is seen, and ", |before, _, left| left.0 = *before),
+    ("is seen, and ", |_, _, left| {
+        // A refusal keeps the numbers.
+        if left.1 .0 != 0 {
+            left.0[0] = 0;
+        }
+    }),
+    ("Cell { ", |_, look, left| {
+        if matches!(look, Look::Cell { .. }) && left.1 == (1, 0) {
+            left.1 = (2, 0);
+        }
+    }),
+    ("Request { ", |_, look, left| {
+        if matches!(look, Look::Request { .. }) && left.1 == (11, 0) {
+            left.1 = (0, 0);
+        }
+    }),
+];
 
 /// Wrong at a Start or an event.
 const WRONG_RUNS: [Planted<WrongRun>; 8] = [
@@ -244,6 +286,13 @@ fn what_is_wrong_at_an_event_is_found() {
 }
 
 #[test]
+fn what_is_wrong_at_a_look_is_found() {
+    for (expected, look) in WRONG_LOOKS {
+        differs(&Wrong { look, ..RIGHT }, expected);
+    }
+}
+
+#[test]
 fn what_is_wrong_at_a_writing_is_found() {
     for (expected, write) in WRONG_WRITINGS {
         differs(&Wrong { write, ..RIGHT }, expected);
@@ -271,6 +320,10 @@ impl Engine for Blind {
             return (0, 0);
         }
         Safe.apply(words, event)
+    }
+
+    fn look(&self, words: &[u64; WORDS], look: Look, seen: &mut Seen) -> Answer {
+        Safe.look(words, look, seen)
     }
 
     fn read(&self, journal: &[u8], place: &mut usize, fields: &mut Fields) -> Answer {
