@@ -1,4 +1,5 @@
-// The public events: each takes any words, and answers 15 where they are not formed, before all else. One function tests it for all of them.
+// The public events: each takes any words, and answers 15 where they are not formed, before all else. Only a run calls `act`, so that the
+// compiler puts it into the run's loop.
 use crate::ask;
 use crate::cells;
 use crate::formed::is_formed;
@@ -41,57 +42,70 @@ pub fn load(state: &[u64; WORDS], card: u8, block: u8) -> Answer
 pub fn store(state: &mut [u64; WORDS], card: u8, block: u8, value: u32) -> Answer
     ensures { λ r. ⌜ Answers (now (state .entry)) (Store card block value) r (now (state .exit)) ⌝ }
 {
-    step(state, Event::Store { card, block, value })
+    if is_formed(state) {
+        return cells::store(state, card, block, value);
+    }
+    Answer::Refused(Refusal::IllFormed)
 }
 
 // A card drops its copy, and home is not told.
 pub fn drop(state: &mut [u64; WORDS], card: u8, block: u8) -> Answer
     ensures { λ r. ⌜ Answers (now (state .entry)) (Drop card block) r (now (state .exit)) ⌝ }
 {
-    step(state, Event::Drop { card, block })
+    if is_formed(state) {
+        return cells::drop(state, card, block);
+    }
+    Answer::Refused(Refusal::IllFormed)
 }
 
 // A card's request joins the line; the mask names the cards that are to see it.
 pub fn ask(state: &mut [u64; WORDS], card: u8, block: u8, kind: u8, mask: Mask) -> Answer
     ensures { λ r. ⌜ Answers (now (state .entry)) (Ask card block kind mask) r (now (state .exit)) ⌝ }
 {
-    step(
-        state,
-        Event::Ask {
-            card,
-            block,
-            kind,
-            mask,
-        },
-    )
+    if is_formed(state) {
+        return ask::ask(state, card, block, kind, mask);
+    }
+    Answer::Refused(Refusal::IllFormed)
 }
 
 // The request at the head of the line has its turn.
 pub fn order(state: &mut [u64; WORDS]) -> Answer
     ensures { λ r. ⌜ Answers (now (state .entry)) Order r (now (state .exit)) ⌝ }
 {
-    step(state, Event::Order)
+    if is_formed(state) {
+        return order::order(state);
+    }
+    Answer::Refused(Refusal::IllFormed)
 }
 
 // A message of the pool reaches its receiver.
 pub fn deliver(state: &mut [u64; WORDS], position: u8) -> Answer
     ensures { λ r. ⌜ Answers (now (state .entry)) (Deliver position) r (now (state .exit)) ⌝ }
 {
-    step(state, Event::Deliver { position })
+    if is_formed(state) {
+        return pool::deliver(state, position);
+    }
+    Answer::Refused(Refusal::IllFormed)
 }
 
 // A message of the pool is there once more.
 pub fn copy(state: &mut [u64; WORDS], position: u8) -> Answer
     ensures { λ r. ⌜ Answers (now (state .entry)) (Copy position) r (now (state .exit)) ⌝ }
 {
-    step(state, Event::Copy { position })
+    if is_formed(state) {
+        return pool::copy(state, position);
+    }
+    Answer::Refused(Refusal::IllFormed)
 }
 
 // A card starts anew: out of the line and the sharers, its blocks to home, its cells I.
 pub fn rejoin(state: &mut [u64; WORDS], card: u8) -> Answer
     ensures { λ r. ⌜ Answers (now (state .entry)) (Rejoin card) r (now (state .exit)) ⌝ }
 {
-    step(state, Event::Rejoin { card })
+    if is_formed(state) {
+        return rejoin::rejoin(state, card);
+    }
+    Answer::Refused(Refusal::IllFormed)
 }
 
 // Any event, on words that are formed.

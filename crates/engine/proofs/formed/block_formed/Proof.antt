@@ -68,8 +68,8 @@ slice-aggregate-row-is-2 c = search needs
 row-is-requires-2 : tie.Need-row-is-requires-2
 row-is-requires-2 c κs = search needs
 
-cells-formed-requires-2 : tie.Need-cells-formed-requires-2
-cells-formed-requires-2 c κs = search needs
+cells-unused-requires : tie.Need-cells-unused-requires
+cells-unused-requires c κs = search needs
 
 returns-2 : tie.Need-returns-2
 unfolding blockTest
@@ -79,7 +79,7 @@ returns-2 c =
       ← c₄ .blocks2 .ensures,
       le-ltb _ _ (c .before .before .before .if1 .left),
       c .before .row-is2 .ensures,
-      c .cells-formed2 .ensures,
+      c .cells-unused .ensures,
       c₄ .before .before .home-place .ensures,
     )
 
@@ -102,5 +102,5 @@ block-formed-spec =
     returns
     slice-aggregate-row-is-2
     row-is-requires-2
-    cells-formed-requires-2
+    cells-unused-requires
     returns-2)

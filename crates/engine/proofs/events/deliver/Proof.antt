@@ -1,0 +1,21 @@
+-- `events::deliver` does what `pool::deliver` does on formed words, and answers 15 to others.
+use borrow.Author.Needs.{needs}
+use mathlib.Core.Path.{sym, _∙_}
+use Rattle.engine.proofs.Promised.{answers-formed, answers-ill-formed}
+use Rattle.engine.proofs.events.deliver.Statement.{statement}
+use Rattle.engine.proofs.events.deliver.Tie as tie
+
+is-formed-requires : tie.Need-is-formed-requires
+is-formed-requires c κs = search needs
+
+deliver-requires : tie.Need-deliver-requires
+deliver-requires c κs = sym (c .before .before .is-formed .ensures) ∙ c .before .if1 .taken
+
+returns : tie.Need-returns
+returns c = answers-formed _ _ _ _ (sym (c .before .before .before .is-formed .ensures) ∙ c .before .before .if1 .taken) (c .deliver .ensures)
+
+returns-2 : tie.Need-returns-2
+returns-2 c = answers-ill-formed _ _ (sym (c .before .is-formed .ensures) ∙ c .if1 .left)
+
+pub deliver-spec : {M : Type 1} → statement M
+deliver-spec = tie.close (tie.spec is-formed-requires deliver-requires returns returns-2)
