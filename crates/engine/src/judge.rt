@@ -40,9 +40,9 @@ pub(crate) fn judge(s: &[u64; WORDS], request: Request) -> Judged
     requires { ⌜ (formed (now s) ≡ true) × (0 < waitingOf (now s)) × (request ≡ requestAt (now s) 0) ⌝ }
     ensures { λ r. ⌜ r ≡ judged (view (now (s .entry))) request ⌝ }
 {
+    let waits = held(s, request.block);
     let number = last(s);
     let spent = LAST_NUMBER <= number.0;
-    let waits = held(s, request.block);
     if spent {
         return Judged::No(Refusal::NumbersSpent);
     }
