@@ -38,8 +38,7 @@ loop-less c = search needs
 loop-again : tie.Need-loop-again Inv-loop μ-loop
 unfolding cellTest
 loop-again c =
-    let l = c .before .before .before .before .loop in
-    (
+    let l = c .before .before .before .before .loop in (
       search needs,
       all-more _ _ _ (l .inv .1) _ (rw (le-ltb (l .card) 0 (omega arith), c .row-is .ensures, c .before .before .cell-place .ensures)),
     )
