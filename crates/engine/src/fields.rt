@@ -13,7 +13,10 @@ use rules::RetryNo;
 use rules::numbers::I;
 use words::layout::BLOCKS_AT;
 use words::layout::CARDS_AT;
+use words::layout::CELL_WORDS;
+use words::layout::HOME_WORDS;
 use words::layout::LAST_AT;
+use words::layout::PLACE_WORDS;
 use words::layout::POOLED_AT;
 use words::layout::WAITING_AT;
 use words::layout::WORDS;
@@ -39,6 +42,10 @@ ghost use Rattle.words.specs.Words.{
   sharersAt,
   requestAt,
   messageAt,
+  cellRow,
+  homeRow,
+  requestRow,
+  messageRow,
 };
 ghost use Rattle.words.specs.Inner.Parts.{putCell, putHome, putRequest, putMessage};
 
@@ -182,6 +189,47 @@ pub(crate) fn message_at(s: &[u64; WORDS], place: usize) -> Message
     }
 }
 
+// Rows: the words of an item, as they are stored and tested.
+
+pub(crate) fn cell_row(cell: Cell) -> [u64; CELL_WORDS]
+    ensures { λ r. ⌜ r ≡ cellRow cell ⌝ }
+{
+    let awaits = cell.awaits;
+    [cell.state as u64, cell.value as u64, awaits.0]
+}
+
+pub(crate) fn home_row(home: Home) -> [u64; HOME_WORDS]
+    ensures { λ r. ⌜ r ≡ homeRow (home .memory) (home .owner) (home .sharers) ⌝ }
+{
+    [home.memory as u64, home.owner as u64, home.sharers as u64]
+}
+
+pub(crate) fn request_row(r: Request) -> [u64; PLACE_WORDS]
+    ensures { λ w. ⌜ w ≡ requestRow r ⌝ }
+{
+    let retry = r.retry;
+    [
+        r.card as u64,
+        r.block as u64,
+        r.kind as u64,
+        r.mask as u64,
+        retry.0 as u64,
+    ]
+}
+
+pub(crate) fn message_row(m: Message) -> [u64; PLACE_WORDS]
+    ensures { λ r. ⌜ r ≡ messageRow m ⌝ }
+{
+    let number = m.number;
+    [
+        m.sender as u64,
+        m.receiver as u64,
+        m.block as u64,
+        m.value as u64,
+        number.0,
+    ]
+}
+
 // Stores: each writes the words of what it names, and no other.
 
 pub(crate) fn set_cards(s: &mut [u64; WORDS], n: u64)
@@ -230,23 +278,14 @@ pub(crate) fn put_cell(s: &mut [u64; WORDS], card: u8, block: u8, cell: Cell)
     requires { ⌜ (card < mostCards) × (block < mostBlocks) ⌝ }
     ensures { λ _. ⌜ now (s .exit) ≡ putCell (now (s .entry)) card block cell ⌝ }
 {
-    let awaits = cell.awaits;
-    put_row(
-        s,
-        cell_place(card, block),
-        &[cell.state as u64, cell.value as u64, awaits.0],
-    );
+    put_row(s, cell_place(card, block), &cell_row(cell));
 }
 
 pub(crate) fn put_home(s: &mut [u64; WORDS], block: u8, home: Home)
     requires { ⌜ block < mostBlocks ⌝ }
     ensures { λ _. ⌜ now (s .exit) ≡ putHome (now (s .entry)) block (home .memory) (home .owner) (home .sharers) ⌝ }
 {
-    put_row(
-        s,
-        home_place(block),
-        &[home.memory as u64, home.owner as u64, home.sharers as u64],
-    );
+    put_row(s, home_place(block), &home_row(home));
 }
 
 // A request's words at a place of the line.
@@ -254,18 +293,7 @@ pub(crate) fn put_request(s: &mut [u64; WORDS], place: usize, r: Request)
     requires { ⌜ place < room ⌝ }
     ensures { λ _. ⌜ now (s .exit) ≡ putRequest (now (s .entry)) place r ⌝ }
 {
-    let retry = r.retry;
-    put_row(
-        s,
-        request_place(place),
-        &[
-            r.card as u64,
-            r.block as u64,
-            r.kind as u64,
-            r.mask as u64,
-            retry.0 as u64,
-        ],
-    );
+    put_row(s, request_place(place), &request_row(r));
 }
 
 // A message's words at a place of the pool.
@@ -273,16 +301,5 @@ pub(crate) fn put_message(s: &mut [u64; WORDS], place: usize, m: Message)
     requires { ⌜ place < room ⌝ }
     ensures { λ _. ⌜ now (s .exit) ≡ putMessage (now (s .entry)) place m ⌝ }
 {
-    let number = m.number;
-    put_row(
-        s,
-        message_place(place),
-        &[
-            m.sender as u64,
-            m.receiver as u64,
-            m.block as u64,
-            m.value as u64,
-            number.0,
-        ],
-    );
+    put_row(s, message_place(place), &message_row(m));
 }

@@ -2,11 +2,15 @@
 use crate::fields::blocks;
 use crate::fields::cards;
 use crate::fields::cell_at;
+use crate::fields::cell_row;
 use crate::fields::home_at;
+use crate::fields::home_row;
 use crate::fields::last;
 use crate::fields::message_at;
+use crate::fields::message_row;
 use crate::fields::pooled;
 use crate::fields::request_at;
+use crate::fields::request_row;
 use crate::fields::waiting;
 use crate::masks::every;
 use crate::masks::inside;
@@ -149,8 +153,7 @@ fn cell_formed(s: &[u64; WORDS], card: u8, block: u8, cards: u64) -> bool
     let p = cell_place(card, block);
     if (card as u64) < cards {
         let x = cell_at(s, card, block);
-        let n = x.awaits;
-        return row_is(s, p, &[x.state as u64, x.value as u64, n.0]) & ok_cell(x, last(s));
+        return row_is(s, p, &cell_row(x)) & ok_cell(x, last(s));
     }
     row_is(s, p, &[0, 0, 0])
 }
@@ -192,8 +195,7 @@ fn block_formed(s: &[u64; WORDS], block: u8) -> bool
     let n = cards(s);
     if (block as u64) < blocks(s) {
         let h = home_at(s, block);
-        let same = row_is(s, p, &[h.memory as u64, h.owner as u64, h.sharers as u64]);
-        return same & ok_home(h, n) & cells_formed(s, block, n);
+        return row_is(s, p, &home_row(h)) & ok_home(h, n) & cells_formed(s, block, n);
     }
     row_is(s, p, &[0, HOME as u64, 0]) & cells_unused(s, block)
 }
@@ -220,19 +222,7 @@ fn request_formed(s: &[u64; WORDS], place: usize) -> bool
     let p = request_place(place);
     if (place as u64) < waiting(s) {
         let r = request_at(s, place);
-        let n = r.retry;
-        let same = row_is(
-            s,
-            p,
-            &[
-                r.card as u64,
-                r.block as u64,
-                r.kind as u64,
-                r.mask as u64,
-                n.0 as u64,
-            ],
-        );
-        return same & ok_request(r, cards(s), blocks(s));
+        return row_is(s, p, &request_row(r)) & ok_request(r, cards(s), blocks(s));
     }
     row_is(s, p, &[0, 0, 0, 0, 0])
 }
@@ -259,19 +249,7 @@ fn message_formed(s: &[u64; WORDS], place: usize) -> bool
     let p = message_place(place);
     if (place as u64) < pooled(s) {
         let m = message_at(s, place);
-        let n = m.number;
-        let same = row_is(
-            s,
-            p,
-            &[
-                m.sender as u64,
-                m.receiver as u64,
-                m.block as u64,
-                m.value as u64,
-                n.0,
-            ],
-        );
-        return same & ok_message(m, cards(s), blocks(s), last(s));
+        return row_is(s, p, &message_row(m)) & ok_message(m, cards(s), blocks(s), last(s));
     }
     row_is(s, p, &[0, 0, 0, 0, 0])
 }

@@ -6,11 +6,8 @@ use Rattle.engine.proofs.fields.put_cell.Tie as tie
 cell-place-requires : tie.Need-cell-place-requires
 cell-place-requires c κs = search needs
 
-cast-t10 : tie.Need-cast-t10
-cast-t10 c = search needs
-
-cast-t11 : tie.Need-cast-t11
-cast-t11 c = search needs
+cell-row-requires : tie.Need-cell-row-requires
+cell-row-requires c κs = search needs
 
 slice-aggregate-put-row : tie.Need-slice-aggregate-put-row
 slice-aggregate-put-row c = search needs
@@ -19,15 +16,14 @@ put-row-requires : tie.Need-put-row-requires
 put-row-requires c κs = search needs
 
 returns : tie.Need-returns
-returns c = rw (c .before .before .before .before .cell-place .ensures) at (c .put-row .ensures)
+returns c = rw (c .before .before .before .cell-place .ensures, c .before .before .cell-row .ensures) at (c .put-row .ensures)
 
 pub put-cell-spec : {M : Type 1} → statement M
 put-cell-spec =
     tie.close
     (tie.spec
     cell-place-requires
-    cast-t10
-    cast-t11
+    cell-row-requires
     slice-aggregate-put-row
     put-row-requires
     returns)

@@ -6,14 +6,8 @@ use Rattle.engine.proofs.fields.put_home.Tie as tie
 home-place-requires : tie.Need-home-place-requires
 home-place-requires c κs = search needs
 
-cast-t8 : tie.Need-cast-t8
-cast-t8 c = search needs
-
-cast-t9 : tie.Need-cast-t9
-cast-t9 c = search needs
-
-cast-t10 : tie.Need-cast-t10
-cast-t10 c = search needs
+home-row-requires : tie.Need-home-row-requires
+home-row-requires c κs = search needs
 
 slice-aggregate-put-row : tie.Need-slice-aggregate-put-row
 slice-aggregate-put-row c = search needs
@@ -22,16 +16,14 @@ put-row-requires : tie.Need-put-row-requires
 put-row-requires c κs = search needs
 
 returns : tie.Need-returns
-returns c = rw (c .before .before .before .before .before .home-place .ensures) at (c .put-row .ensures)
+returns c = rw (c .before .before .before .home-place .ensures, c .before .before .home-row .ensures) at (c .put-row .ensures)
 
 pub put-home-spec : {M : Type 1} → statement M
 put-home-spec =
     tie.close
     (tie.spec
     home-place-requires
-    cast-t8
-    cast-t9
-    cast-t10
+    home-row-requires
     slice-aggregate-put-row
     put-row-requires
     returns)

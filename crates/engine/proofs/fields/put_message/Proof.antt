@@ -6,17 +6,8 @@ use Rattle.engine.proofs.fields.put_message.Tie as tie
 message-place-requires : tie.Need-message-place-requires
 message-place-requires c κs = search needs
 
-cast-t9 : tie.Need-cast-t9
-cast-t9 c = search needs
-
-cast-t10 : tie.Need-cast-t10
-cast-t10 c = search needs
-
-cast-t11 : tie.Need-cast-t11
-cast-t11 c = search needs
-
-cast-t12 : tie.Need-cast-t12
-cast-t12 c = search needs
+message-row-requires : tie.Need-message-row-requires
+message-row-requires c κs = search needs
 
 slice-aggregate-put-row : tie.Need-slice-aggregate-put-row
 slice-aggregate-put-row c = search needs
@@ -25,17 +16,14 @@ put-row-requires : tie.Need-put-row-requires
 put-row-requires c κs = search needs
 
 returns : tie.Need-returns
-returns c = rw (c .before .before .before .before .before .before .message-place .ensures) at (c .put-row .ensures)
+returns c = rw (c .before .before .before .message-place .ensures, c .before .before .message-row .ensures) at (c .put-row .ensures)
 
 pub put-message-spec : {M : Type 1} → statement M
 put-message-spec =
     tie.close
     (tie.spec
     message-place-requires
-    cast-t9
-    cast-t10
-    cast-t11
-    cast-t12
+    message-row-requires
     slice-aggregate-put-row
     put-row-requires
     returns)

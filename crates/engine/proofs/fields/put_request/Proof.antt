@@ -6,20 +6,8 @@ use Rattle.engine.proofs.fields.put_request.Tie as tie
 request-place-requires : tie.Need-request-place-requires
 request-place-requires c κs = search needs
 
-cast-t9 : tie.Need-cast-t9
-cast-t9 c = search needs
-
-cast-t10 : tie.Need-cast-t10
-cast-t10 c = search needs
-
-cast-t11 : tie.Need-cast-t11
-cast-t11 c = search needs
-
-cast-t12 : tie.Need-cast-t12
-cast-t12 c = search needs
-
-cast-t13 : tie.Need-cast-t13
-cast-t13 c = search needs
+request-row-requires : tie.Need-request-row-requires
+request-row-requires c κs = search needs
 
 slice-aggregate-put-row : tie.Need-slice-aggregate-put-row
 slice-aggregate-put-row c = search needs
@@ -28,18 +16,14 @@ put-row-requires : tie.Need-put-row-requires
 put-row-requires c κs = search needs
 
 returns : tie.Need-returns
-returns c = rw (c .before .before .before .before .before .before .before .request-place .ensures) at (c .put-row .ensures)
+returns c = rw (c .before .before .before .request-place .ensures, c .before .before .request-row .ensures) at (c .put-row .ensures)
 
 pub put-request-spec : {M : Type 1} → statement M
 put-request-spec =
     tie.close
     (tie.spec
     request-place-requires
-    cast-t9
-    cast-t10
-    cast-t11
-    cast-t12
-    cast-t13
+    request-row-requires
     slice-aggregate-put-row
     put-row-requires
     returns)

@@ -20,14 +20,8 @@ blocks-requires c κs = search needs
 home-at-requires : tie.Need-home-at-requires
 home-at-requires c κs = search needs
 
-cast-t12 : tie.Need-cast-t12
-cast-t12 c = search needs
-
-cast-t13 : tie.Need-cast-t13
-cast-t13 c = search needs
-
-cast-t14 : tie.Need-cast-t14
-cast-t14 c = search needs
+home-row-requires : tie.Need-home-row-requires
+home-row-requires c κs = search needs
 
 slice-aggregate-row-is : tie.Need-slice-aggregate-row-is
 slice-aggregate-row-is c = search needs
@@ -45,21 +39,23 @@ returns : tie.Need-returns
 unfolding blockTest homeTest
 returns c =
     let c₂ = c .before .before in
-    let c₇ = c₂ .before .before .before .before .before in
+    let c₄ = c₂ .before .before in
+    let c₅ = c₄ .before in
+    let c₆ = c₅ .before in
+    let c₇ = c₆ .before in
     let c₈ = c₇ .before in
-    let c₉ = c₈ .before in
-    let c₁₀ = c₉ .before in
     rw (
-      ← c₉ .blocks2 .ensures,
-      lt-ltb _ _ (c₈ .if1 .taken),
+      ← c₇ .blocks2 .ensures,
+      lt-ltb _ _ (c₆ .if1 .taken),
       c₂ .row-is .ensures,
+      c₄ .home-row .ensures,
       c .before .ok-home .ensures,
       c .cells-formed .ensures,
-      c₁₀ .cards .ensures,
-      c₇ .home-at .ensures .0,
-      c₇ .home-at .ensures .1,
-      c₇ .home-at .ensures .2,
-      c₁₀ .before .home-place .ensures,
+      c₈ .cards .ensures,
+      c₅ .home-at .ensures .0,
+      c₅ .home-at .ensures .1,
+      c₅ .home-at .ensures .2,
+      c₈ .before .home-place .ensures,
     )
 
 slice-aggregate-row-is-2 : tie.Need-slice-aggregate-row-is-2
@@ -92,9 +88,7 @@ block-formed-spec =
     cards-requires
     blocks-requires
     home-at-requires
-    cast-t12
-    cast-t13
-    cast-t14
+    home-row-requires
     slice-aggregate-row-is
     row-is-requires
     ok-home-requires

@@ -11,11 +11,8 @@ cell-place-requires c κs = search needs
 cell-at-requires : tie.Need-cell-at-requires
 cell-at-requires c κs = search needs
 
-cast-t13 : tie.Need-cast-t13
-cast-t13 c = search needs
-
-cast-t14 : tie.Need-cast-t14
-cast-t14 c = search needs
+cell-row-requires : tie.Need-cell-row-requires
+cell-row-requires c κs = search needs
 
 slice-aggregate-row-is : tie.Need-slice-aggregate-row-is
 slice-aggregate-row-is c = search needs
@@ -33,15 +30,17 @@ returns : tie.Need-returns
 unfolding cellTest
 returns c =
     let c₂ = c .before .before in
-    let c₇ = c₂ .before .before .before .before .before in
-    let c₈ = c₇ .before in
+    let c₄ = c₂ .before .before in
+    let c₅ = c₄ .before in
+    let c₆ = c₅ .before in
     rw (
-      lt-ltb _ _ (c₈ .if1 .taken),
+      lt-ltb _ _ (c₆ .if1 .taken),
       c₂ .row-is .ensures,
+      c₄ .cell-row .ensures,
       c .ok-cell .ensures,
       c .before .last .ensures,
-      c₇ .cell-at .ensures,
-      c₈ .before .cell-place .ensures,
+      c₅ .cell-at .ensures,
+      c₆ .before .cell-place .ensures,
     )
 
 slice-aggregate-row-is-2 : tie.Need-slice-aggregate-row-is-2
@@ -60,8 +59,7 @@ cell-formed-spec =
     (tie.spec
     cell-place-requires
     cell-at-requires
-    cast-t13
-    cast-t14
+    cell-row-requires
     slice-aggregate-row-is
     row-is-requires
     last-requires

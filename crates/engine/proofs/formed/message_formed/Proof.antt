@@ -14,17 +14,8 @@ pooled-requires c κs = search needs
 message-at-requires : tie.Need-message-at-requires
 message-at-requires c κs = search needs
 
-cast-ok-message : tie.Need-cast-ok-message
-cast-ok-message c = search needs
-
-cast-t13 : tie.Need-cast-t13
-cast-t13 c = search needs
-
-cast-t14 : tie.Need-cast-t14
-cast-t14 c = search needs
-
-cast-ok-message-2 : tie.Need-cast-ok-message-2
-cast-ok-message-2 c = search needs
+message-row-requires : tie.Need-message-row-requires
+message-row-requires c κs = search needs
 
 slice-aggregate-row-is : tie.Need-slice-aggregate-row-is
 slice-aggregate-row-is c = search needs
@@ -50,19 +41,21 @@ returns c =
     let c₂ = c .before .before in
     let c₃ = c₂ .before in
     let c₄ = c₃ .before in
-    let c₁₁ = c₄ .before .before .before .before .before .before .before in
-    let c₁₂ = c₁₁ .before in
-    let c₁₃ = c₁₂ .before in
+    let c₆ = c₄ .before .before in
+    let c₇ = c₆ .before in
+    let c₈ = c₇ .before in
+    let c₉ = c₈ .before in
     rw (
-      ← c₁₃ .pooled .ensures,
-      lt-ltb _ _ (c₁₂ .if1 .taken),
+      ← c₉ .pooled .ensures,
+      lt-ltb _ _ (c₈ .if1 .taken),
       c₄ .row-is .ensures,
+      c₆ .message-row .ensures,
       c .ok-message .ensures,
       c₃ .cards .ensures,
       c₂ .blocks2 .ensures,
       c .before .last .ensures,
-      c₁₁ .message-at .ensures,
-      c₁₃ .before .message-place .ensures,
+      c₇ .message-at .ensures,
+      c₉ .before .message-place .ensures,
     )
 
 slice-aggregate-row-is-2 : tie.Need-slice-aggregate-row-is-2
@@ -84,10 +77,7 @@ message-formed-spec =
     message-place-requires
     pooled-requires
     message-at-requires
-    cast-ok-message
-    cast-t13
-    cast-t14
-    cast-ok-message-2
+    message-row-requires
     slice-aggregate-row-is
     row-is-requires
     cards-requires

@@ -14,20 +14,8 @@ waiting-requires c κs = search needs
 request-at-requires : tie.Need-request-at-requires
 request-at-requires c κs = search needs
 
-cast-ok-request : tie.Need-cast-ok-request
-cast-ok-request c = search needs
-
-cast-t13 : tie.Need-cast-t13
-cast-t13 c = search needs
-
-cast-t14 : tie.Need-cast-t14
-cast-t14 c = search needs
-
-cast-t15 : tie.Need-cast-t15
-cast-t15 c = search needs
-
-cast-ok-request-2 : tie.Need-cast-ok-request-2
-cast-ok-request-2 c = search needs
+request-row-requires : tie.Need-request-row-requires
+request-row-requires c κs = search needs
 
 slice-aggregate-row-is : tie.Need-slice-aggregate-row-is
 slice-aggregate-row-is c = search needs
@@ -49,18 +37,20 @@ unfolding requestTest
 returns c =
     let c₂ = c .before .before in
     let c₃ = c₂ .before in
-    let c₁₁ = c₃ .before .before .before .before .before .before .before .before in
-    let c₁₂ = c₁₁ .before in
-    let c₁₃ = c₁₂ .before in
+    let c₅ = c₃ .before .before in
+    let c₆ = c₅ .before in
+    let c₇ = c₆ .before in
+    let c₈ = c₇ .before in
     rw (
-      ← c₁₃ .waiting .ensures,
-      lt-ltb _ _ (c₁₂ .if1 .taken),
+      ← c₈ .waiting .ensures,
+      lt-ltb _ _ (c₇ .if1 .taken),
       c₃ .row-is .ensures,
+      c₅ .request-row .ensures,
       c .ok-request .ensures,
       c₂ .cards .ensures,
       c .before .blocks2 .ensures,
-      c₁₁ .request-at .ensures,
-      c₁₃ .before .request-place .ensures,
+      c₆ .request-at .ensures,
+      c₈ .before .request-place .ensures,
     )
 
 slice-aggregate-row-is-2 : tie.Need-slice-aggregate-row-is-2
@@ -82,11 +72,7 @@ request-formed-spec =
     request-place-requires
     waiting-requires
     request-at-requires
-    cast-ok-request
-    cast-t13
-    cast-t14
-    cast-t15
-    cast-ok-request-2
+    request-row-requires
     slice-aggregate-row-is
     row-is-requires
     cards-requires
