@@ -38,7 +38,7 @@ static void step(const char *words, uint64_t answer, uint32_t refusal, uint32_t 
 
 int main(void)
 {
-    step("a chassis of two cards and one block", coherence_start(state, CARDS, 1), COHERENCE_DONE, 0);
+    step("a chassis of two cards and one block", coherence_start(state, COHERENCE_EDITION_MSI, CARDS, 1), COHERENCE_DONE, 0);
 
     puts("\nThe reply to a request that is forgotten");
     step("card 0 asks to store", coherence_ask(state, 0, BLOCK, COHERENCE_KIND_GETX, 0), COHERENCE_DONE, 0);

@@ -132,7 +132,7 @@ int main(void)
         fprintf(stderr, "station: the archive is of another version than the header\n");
         return EXIT_FAILURE;
     }
-    must("start", coherence_start(state, CARDS, 1));
+    must("start", coherence_start(state, COHERENCE_EDITION_MSI, CARDS, 1));
     ask(0, COHERENCE_KIND_GETX, 0);
     order_all();
     wire_repeats();

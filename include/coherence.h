@@ -38,11 +38,11 @@ extern "C" {
 #endif
 
 /* The version of this header, and of the archive: major * 65536 + minor * 256 + patch. */
-#define COHERENCE_VERSION 65536
+#define COHERENCE_VERSION 131072
 uint32_t coherence_version(void);
 
 /* The words of a chassis. */
-#define COHERENCE_WORDS 1509
+#define COHERENCE_WORDS 1510
 
 /* The two halves of an answer. */
 #define COHERENCE_REFUSAL(answer) ((uint32_t)((answer) >> 32))
@@ -64,13 +64,19 @@ enum coherence_refusal {
     COHERENCE_REFUSED_NO_SUCH_MESSAGE = 11,
     COHERENCE_REFUSED_NUMBERS_SPENT = 12,   /* no order number is left */
     COHERENCE_REFUSED_IMPOSSIBLE = 13,      /* never from a chassis that Start made: proved */
-    COHERENCE_REFUSED_NO_SUCH_SIZE = 14,    /* outside 1 to 8 cards or 1 to 32 blocks */
+    COHERENCE_REFUSED_NO_SUCH_SIZE = 14,    /* outside 1 to 8 cards or 1 to 32 blocks, or no edition */
     COHERENCE_REFUSED_ILL_FORMED = 15,
     COHERENCE_REFUSED_CUT_SHORT = 20,       /* a record that ends too early */
     COHERENCE_REFUSED_UNKNOWN_TAG = 21,
     COHERENCE_REFUSED_WRONG_LENGTH = 22,
     COHERENCE_REFUSED_WRONG_OPENING = 23,
     COHERENCE_REFUSED_NO_ROOM = 24          /* the buffer's rest is too short for the record */
+};
+
+/* The edition of a chassis, chosen at its start. */
+enum coherence_edition {
+    COHERENCE_EDITION_MSI = 0,
+    COHERENCE_EDITION_MOSI = 1 /* an owner that is asked for a copy keeps the block, and loads it beside the others */
 };
 
 /* What a request asks for. */
@@ -95,7 +101,7 @@ enum coherence_delivery {
 };
 
 /* Makes the state of a new chassis, in which every block is 0; of none, with COHERENCE_REFUSED_NO_SUCH_SIZE. */
-uint64_t coherence_start(uint64_t state[COHERENCE_WORDS], uint8_t cards, uint8_t blocks);
+uint64_t coherence_start(uint64_t state[COHERENCE_WORDS], uint8_t edition, uint8_t cards, uint8_t blocks);
 
 /* A card reads a block: the value. Nothing changes. */
 uint64_t coherence_load(const uint64_t state[COHERENCE_WORDS], uint8_t card, uint8_t block);
@@ -103,7 +109,7 @@ uint64_t coherence_load(const uint64_t state[COHERENCE_WORDS], uint8_t card, uin
 /* A card writes a block. */
 uint64_t coherence_store(uint64_t state[COHERENCE_WORDS], uint8_t card, uint8_t block, uint32_t value);
 
-/* A card drops the copy that it only reads; home is not told. */
+/* A card in S drops its copy; home is not told. */
 uint64_t coherence_drop(uint64_t state[COHERENCE_WORDS], uint8_t card, uint8_t block);
 
 /* A card's request joins the line. Bit k of the mask names card k as one that is to see it. */
@@ -122,10 +128,11 @@ uint64_t coherence_copy(uint64_t state[COHERENCE_WORDS], uint8_t position);
 uint64_t coherence_rejoin(uint64_t state[COHERENCE_WORDS], uint8_t card);
 
 /* Looking: nothing changes. What is seen comes out as COHERENCE_SEEN numbers; those that have no name are 0, and a refusal keeps them. */
-#define COHERENCE_SEEN 5
+#define COHERENCE_SEEN 6
 
-/* How much there is, and the last order number. */
+/* The edition, how much there is, and the last order number. */
 enum coherence_seen_counts {
+    COHERENCE_COUNT_EDITION, /* one of coherence_edition */
     COHERENCE_COUNT_CARDS,
     COHERENCE_COUNT_BLOCKS,
     COHERENCE_COUNT_WAITING, /* requests in the line */
@@ -185,10 +192,14 @@ enum coherence_state {
     COHERENCE_STATE_IM_D,
     COHERENCE_STATE_SM_D,
     COHERENCE_STATE_MI_A, /* its put waits in the line */
-    COHERENCE_STATE_II_A  /* its put waits, and has lapsed */
+    COHERENCE_STATE_II_A, /* its put waits, and has lapsed */
+    COHERENCE_STATE_O,    /* MOSI alone, as the two behind it: owns the block, and may load; others may load too */
+    COHERENCE_STATE_OM_AD, /* an owner's request to store waits in the line */
+    COHERENCE_STATE_OI_A   /* an owner's put waits in the line */
 };
 
-/* A journal's record as numbers; what a record has not is 0. An opening has its cards and blocks in the places of a card and a block. */
+/* A journal's record as numbers; what a record has not is 0. An opening has its edition, cards and blocks in the places
+ * of a kind, a card and a block. */
 enum coherence_field {
     COHERENCE_FIELD_TAG,
     COHERENCE_FIELD_CARD,
@@ -220,7 +231,8 @@ uint64_t coherence_read(const uint8_t *journal, size_t size, size_t *place, uint
 
 /*
  * Writes the record of a tag and of the fields that such a record has at a place of a buffer, and moves the place behind it. A refusal
- * (COHERENCE_REFUSED_UNKNOWN_TAG, COHERENCE_REFUSED_NO_ROOM) keeps the place and every byte.
+ * (COHERENCE_REFUSED_UNKNOWN_TAG; COHERENCE_REFUSED_WRONG_OPENING for an opening of no edition; COHERENCE_REFUSED_NO_ROOM) keeps the place
+ * and every byte.
  */
 uint64_t coherence_write(uint8_t *buffer, size_t size, size_t *place, uint8_t tag, uint8_t card, uint8_t block, uint8_t kind,
                          uint8_t mask, uint32_t value, uint8_t position);

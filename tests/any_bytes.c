@@ -140,7 +140,10 @@ static void random_states(uint64_t *state, uint64_t *copy, uint64_t *before)
 static void played_states(uint64_t *state, uint64_t *copy, uint64_t *before)
 {
     for (int round = 0; round < ROUNDS / STEPS; round++) {
-        uint64_t made = coherence_start(state, (uint8_t)any(10), (uint8_t)(any(2) ? any(4) : any(35)));
+        uint8_t edition = (uint8_t)any(any(8) == 0 ? 256 : 2);
+        uint64_t made = coherence_start(state, edition, (uint8_t)any(10), (uint8_t)(any(2) ? any(4) : any(35)));
+        if (edition > COHERENCE_EDITION_MOSI && COHERENCE_REFUSAL(made) != COHERENCE_REFUSED_NO_SUCH_SIZE)
+            fail("a chassis of no edition");
         for (int i = 0; i < STEPS; i++) {
             uint64_t answer = try_event(state, copy, before);
             if (made != 0 && COHERENCE_REFUSAL(answer) != COHERENCE_REFUSED_ILL_FORMED)
@@ -165,10 +168,10 @@ static void due_fields(uint64_t *due, uint8_t tag, const uint8_t *a, uint32_t va
         due[COHERENCE_FIELD_CARD] = a[0];
     if (tag == COHERENCE_TAG_OPENING || tag == COHERENCE_TAG_LOAD || tag == COHERENCE_TAG_STORE || tag == COHERENCE_TAG_ASK || tag == COHERENCE_TAG_DROP)
         due[COHERENCE_FIELD_BLOCK] = a[1];
-    if (tag == COHERENCE_TAG_ASK) {
+    if (tag == COHERENCE_TAG_OPENING || tag == COHERENCE_TAG_ASK)
         due[COHERENCE_FIELD_KIND] = a[2];
+    if (tag == COHERENCE_TAG_ASK)
         due[COHERENCE_FIELD_MASK] = a[3];
-    }
     if (tag == COHERENCE_TAG_STORE)
         due[COHERENCE_FIELD_VALUE] = value;
 }
@@ -191,12 +194,15 @@ static void records(uint8_t *journal, uint64_t *fields)
     for (int round = 0; round < ROUNDS; round++) {
         for (size_t i = 0; i < JOURNAL; i++)
             journal[i] = before[i] = (uint8_t)any(any(2) ? 256 : 32);
-        uint8_t a[4], tag = (uint8_t)(any(2) ? 0x10 + any(9) : any(256));
+        uint8_t a[4], tag = (uint8_t)(any(2) ? 0x10 + any(9) : any(4) == 0 ? COHERENCE_TAG_OPENING : any(256));
         uint32_t value = any(UINT32_MAX);
         size_t at = any(2) ? any(JOURNAL + 20) : JOURNAL - any(12), place = at;
         arguments(a);
         uint64_t answer = coherence_write(journal, JOURNAL, &place, tag, a[0], a[1], a[2], a[3], value, a[0]);
         calls++;
+        int is_no_edition = tag == COHERENCE_TAG_OPENING && a[2] > COHERENCE_EDITION_MOSI;
+        if (is_no_edition != (COHERENCE_REFUSAL(answer) == COHERENCE_REFUSED_WRONG_OPENING))
+            fail("an opening of no edition is written, or another record is refused for it");
         if (answer != 0) {
             refused++;
             if (place != at || memcmp(journal, before, JOURNAL) != 0)
@@ -236,7 +242,7 @@ static void runs(uint64_t *state, uint64_t *before, uint8_t *journal, uint8_t *t
         uint64_t standing[COHERENCE_STANDING] = {0, 0, 0};
         for (size_t i = 0; i < JOURNAL; i++)
             journal[i] = (uint8_t)any(256);
-        coherence_write(journal, JOURNAL, &place, COHERENCE_TAG_OPENING, 3, 3, 0, 0, 0, 0);
+        coherence_write(journal, JOURNAL, &place, COHERENCE_TAG_OPENING, 3, 3, (uint8_t)any(2), 0, 0, 0);
         while (any(40) != 0) {
             uint8_t a[4];
             arguments(a);

@@ -30,7 +30,7 @@ static uint32_t any(uint32_t below)
 }
 
 static void call_nothing(void) {}
-static void call_start(void) { coherence_start(state, a[0], a[1]); }
+static void call_start(void) { coherence_start(state, a[2], a[0], a[1]); }
 static void call_load(void) { coherence_load(state, a[0], a[1]); }
 static void call_store(void) { coherence_store(state, a[0], a[1], value); }
 static void call_drop(void) { coherence_drop(state, a[0], a[1]); }
@@ -90,7 +90,7 @@ static void fill_journal(void)
 {
     place = 0;
     memset(standing, 0, sizeof standing);
-    coherence_write(journal, JOURNAL, &place, COHERENCE_TAG_OPENING, 4, 4, 0, 0, 0, 0);
+    coherence_write(journal, JOURNAL, &place, COHERENCE_TAG_OPENING, 4, 4, (uint8_t)any(2), 0, 0, 0);
     for (int i = 0; i < STEPS; i++) {
         arguments();
         coherence_write(journal, JOURNAL, &place, a[4], a[0], a[1], a[2], a[3], value, a[0]);
@@ -104,6 +104,7 @@ int main(void)
     for (int round = 0; round < ROUNDS; round++) {
         a[0] = 4;
         a[1] = 4;
+        a[2] = round % 2 == 0 ? COHERENCE_EDITION_MSI : COHERENCE_EDITION_MOSI;
         for (int call = 0; call < FIRST_EVENT; call++) {
             size_t bytes = touched(CALLS[call].call);
             most[call] = bytes > most[call] ? bytes : most[call];

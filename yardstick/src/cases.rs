@@ -137,6 +137,18 @@ impl Subject {
         )
     }
 
+    /// Whether there is an edition to speak of: a chassis, or the Start of one.
+    pub fn needs_a_chassis(self) -> bool {
+        !matches!(
+            self,
+            Subject::Reading
+                | Subject::ReadingTheEnd
+                | Subject::EmptyJournal
+                | Subject::FirstNotOpening
+                | Subject::Writing
+        )
+    }
+
     /// The subject's name in tables and messages.
     pub fn name(self) -> &'static str {
         match self {

@@ -167,6 +167,26 @@ pub const PUTS: Character = Character {
     sizes: Sizes::Crowded,
 };
 
+/// Owners that are asked for copies, then want to store again or put the block
+/// back, and events that an owned copy gives no right to.
+pub const OWNERS: Character = Character {
+    events: &[
+        (Choice::Load, 12),
+        (Choice::Store, 8),
+        (Choice::Drop, 2),
+        (Choice::Ask, 30),
+        (Choice::Order, 24),
+        (Choice::Deliver, 22),
+        (Choice::Rejoin, 2),
+    ],
+    kinds: &[(GETS, 8), (GETX, 4), (PUTX, 2)],
+    sufficing: 80,
+    live: 80,
+    blind: 15,
+    busy_blocks: 1,
+    sizes: Sizes::Crowded,
+};
+
 /// Events made without a look at the state.
 pub const BLIND: Character = Character {
     events: &[],
@@ -179,7 +199,7 @@ pub const BLIND: Character = Character {
 };
 
 /// The characters with their weights in a journal.
-pub const CHARACTERS: [(&Character, u32); 8] = [
+pub const CHARACTERS: [(&Character, u32); 9] = [
     (&CONTENTION, 5),
     (&REJOINS, 4),
     (&FULL_POOL, 3),
@@ -187,5 +207,6 @@ pub const CHARACTERS: [(&Character, u32); 8] = [
     (&HITS, 4),
     (&SMALL_MASKS, 4),
     (&PUTS, 3),
+    (&OWNERS, 3),
     (&BLIND, 1),
 ];

@@ -1,5 +1,6 @@
 //! The state of one chassis: cells, home, line, pool and the last order number.
 
+use crate::edition::Edition;
 use crate::queue::Queue;
 use crate::refusal::Refusal;
 use crate::table::{self, I};
@@ -109,6 +110,7 @@ pub struct Message {
 /// chassis comes from `start` and is changed by the events alone.
 #[derive(Clone, PartialEq, Eq, Debug)]
 pub struct Chassis {
+    pub(crate) edition: Edition,
     pub(crate) cards: u8,
     pub(crate) blocks: u8,
     /// By block, then by card: an order looks at all cells of one block.
@@ -128,6 +130,7 @@ impl Chassis {
     /// The state of 0 cards and 0 blocks, all places unused.
     pub(crate) fn unused() -> Chassis {
         Chassis {
+            edition: Edition::default(),
             cards: 0,
             blocks: 0,
             cells: [[CELL_AT_START; MAX_CARDS]; MAX_BLOCKS],
@@ -139,15 +142,21 @@ impl Chassis {
     }
 
     /// **Start**: a chassis with every cell in I and all the rest empty.
-    pub fn start(cards: u8, blocks: u8) -> Result<Chassis, Refusal> {
+    pub fn start(edition: Edition, cards: u8, blocks: u8) -> Result<Chassis, Refusal> {
         if !sizes_fit(cards, blocks) {
             return Err(Refusal::SizeOutOfRange);
         }
         Ok(Chassis {
+            edition,
             cards,
             blocks,
             ..Chassis::unused()
         })
+    }
+
+    /// The edition.
+    pub fn edition(&self) -> Edition {
+        self.edition
     }
 
     /// The number of cards.

@@ -9,6 +9,9 @@ use crate::table::{self, PUTX, S};
 /// How often a likely event is looked for before a blind one is taken.
 const TRIES: u32 = 3;
 
+/// Percent of stores, drops and asks that are tried in any state that may load.
+const TRIED_ANYWAY: u32 = 5;
+
 /// Percent of blind bytes that may be any byte.
 const ANY_BYTE: u32 = 15;
 
@@ -35,7 +38,11 @@ pub fn choose_event(random: &mut Random, character: &Character, chassis: &Chassi
 fn likely_event(random: &mut Random, character: &Character, chassis: &Chassis) -> Option<Event> {
     let busy_blocks = character.busy_blocks.min(chassis.blocks());
     let choice = random.weighted(character.events)?;
-    let mut cell_where = |fits: fn(u8) -> bool| pick_cell(random, chassis, busy_blocks, fits);
+    let anyway = random.percent(TRIED_ANYWAY);
+    let mut cell_where = |fits: fn(u8) -> bool| {
+        let fits = |state: u8| fits(state) || (anyway && table::row(state).load);
+        pick_cell(random, chassis, busy_blocks, fits)
+    };
     match choice {
         Choice::Load => {
             let (card, block) = cell_where(|state| table::row(state).load)?;
@@ -50,7 +57,7 @@ fn likely_event(random: &mut Random, character: &Character, chassis: &Chassis) -
             let (card, block) = cell_where(|state| state == S)?;
             Some(Event::Drop { card, block })
         }
-        Choice::Ask => likely_ask(random, character, chassis, busy_blocks),
+        Choice::Ask => likely_ask(random, character, chassis, anyway),
         Choice::Order => chassis.head().map(|_| Event::Order),
         Choice::Deliver => likely_delivery(random, character, chassis),
         Choice::Copy => {
@@ -63,15 +70,19 @@ fn likely_event(random: &mut Random, character: &Character, chassis: &Chassis) -
     }
 }
 
-/// An ask that the asker's state allows.
+/// An ask that the asker's state allows, or one that is tried anyway.
 fn likely_ask(
     random: &mut Random,
     character: &Character,
     chassis: &Chassis,
-    busy_blocks: u8,
+    anyway: bool,
 ) -> Option<Event> {
+    let busy_blocks = character.busy_blocks.min(chassis.blocks());
     let kind = random.weighted(character.kinds)?;
-    let allows = |state: u8| table::row(state).ask(kind).is_some();
+    let allows = |state: u8| {
+        let row = table::row(state);
+        row.ask(kind).is_some() || (anyway && row.load)
+    };
     let (card, block) = pick_cell(random, chassis, busy_blocks, allows)?;
     let mask = if random.percent(character.sufficing) {
         chassis.holders(block)

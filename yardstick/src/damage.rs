@@ -1,11 +1,17 @@
 //! Damage to journals, of many kinds.
 
-use crate::generate::sound_journal;
-use crate::journal::{append, value_length, Reader, Record, HEAD_LENGTH, OPENING_BYTES};
+use crate::generate::{pick_edition, sound_journal};
+use crate::journal::{append, value_length, Reader, Record, HEAD_LENGTH, OPENING_LENGTH};
 use crate::random::Random;
 
 /// The longest journal of bytes that mean nothing.
 const LONGEST_NOISE: u32 = 300;
+
+/// Percent of wrong openings that are nearly right, and what those say.
+const NEARLY_RIGHT: u32 = 40;
+const NEAR_OPENINGS: [[u8; OPENING_LENGTH]; 8] = [
+    *b"coh2", *b"moh2", *b"coh0", *b"moh0", *b"COH1", *b"MOH1", *b"msi1", *b"mosi",
+];
 
 /// A kind of damage.
 #[derive(Clone, Copy)]
@@ -86,9 +92,16 @@ fn change_length(random: &mut Random, journal: &mut [u8]) {
     change(journal, place + 1 + which, |byte| byte.wrapping_add(added));
 }
 
-/// Changes one of the opening's four bytes.
+/// Changes one of the opening's four bytes, or makes all four nearly right.
 fn change_opening(random: &mut Random, journal: &mut [u8]) {
-    let which = random.place(OPENING_BYTES.len());
+    if random.percent(NEARLY_RIGHT) {
+        let opening = NEAR_OPENINGS[random.place(NEAR_OPENINGS.len())];
+        for (which, byte) in opening.into_iter().enumerate() {
+            change(journal, HEAD_LENGTH + which, |_| byte);
+        }
+        return;
+    }
+    let which = random.place(OPENING_LENGTH);
     let added = random.byte_between(1, u8::MAX);
     change(journal, HEAD_LENGTH + which, |byte| {
         byte.wrapping_add(added)
@@ -98,6 +111,7 @@ fn change_opening(random: &mut Random, journal: &mut [u8]) {
 /// Puts an opening before one of the records.
 fn insert_opening(random: &mut Random, journal: &mut Vec<u8>) {
     let opening = Record::Opening {
+        edition: pick_edition(random),
         cards: random.byte_below(10),
         blocks: random.byte_below(34),
     };

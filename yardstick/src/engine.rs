@@ -2,6 +2,7 @@
 //! engine's library does; and this program's own engine as one of these.
 
 use crate::chassis::Chassis;
+use crate::edition::Edition;
 use crate::events::Event;
 use crate::fields::{fields_of, record_of, Fields};
 use crate::journal::{read_record, write_record, Record};
@@ -19,8 +20,8 @@ const A_RECORD: u32 = 1;
 /// A refusal changes nothing of them, but for Start, which leaves the words of
 /// no chassis.
 pub trait Engine {
-    /// Start, on any words.
-    fn start(&self, words: &mut [u64; WORDS], cards: u8, blocks: u8) -> Answer;
+    /// Start, on any words, of an edition's number or of a byte that is none.
+    fn start(&self, words: &mut [u64; WORDS], edition: u8, cards: u8, blocks: u8) -> Answer;
 
     /// An event on the words of a state.
     fn apply(&self, words: &mut [u64; WORDS], event: Event) -> Answer;
@@ -28,7 +29,11 @@ pub trait Engine {
     /// Start or an event.
     fn run(&self, words: &mut [u64; WORDS], record: Record) -> Answer {
         match record {
-            Record::Opening { cards, blocks } => self.start(words, cards, blocks),
+            Record::Opening {
+                edition,
+                cards,
+                blocks,
+            } => self.start(words, edition.number(), cards, blocks),
             Record::Event(event) => self.apply(words, event),
         }
     }
@@ -49,8 +54,9 @@ pub trait Engine {
 pub struct Safe;
 
 impl Engine for Safe {
-    fn start(&self, words: &mut [u64; WORDS], cards: u8, blocks: u8) -> Answer {
-        let made = Chassis::start(cards, blocks);
+    fn start(&self, words: &mut [u64; WORDS], edition: u8, cards: u8, blocks: u8) -> Answer {
+        let edition = Edition::of(edition.into()).ok_or(Refusal::SizeOutOfRange);
+        let made = edition.and_then(|edition| Chassis::start(edition, cards, blocks));
         *words = made
             .as_ref()
             .map_or_else(|_| unused_words(), Chassis::words);
@@ -84,8 +90,7 @@ impl Engine for Safe {
     }
 
     fn write(&self, buffer: &mut [u8], place: &mut usize, fields: &Fields) -> Answer {
-        let record = record_of(fields).ok_or(Refusal::UnknownTag);
-        answer(record.and_then(|record| {
+        answer(record_of(fields).and_then(|record| {
             *place = write_record(buffer, *place, record)?;
             Ok(0)
         }))

@@ -10,7 +10,7 @@ use crate::replay::{counted, unread_count, Line, JOURNAL_LIMIT};
 use crate::run::{Run, Seen};
 use crate::told::{accepted, text, told, Told};
 
-/// What an accepted Start makes.
+/// What an accepted Start makes, whatever the edition.
 const FRESH: &str = "cells I (0), values 0, memory 0, owners home (255), no sharers, line and \
     pool empty, last order number 0";
 
@@ -59,9 +59,9 @@ fn write_run(out: &mut String, journal: &[u8], look: Look) -> fmt::Result {
 fn changed(seen: &Seen) -> Vec<Told> {
     let mut changed = match (seen.record, seen.line.answer) {
         (Some(Record::Event(event)), answer) => told(seen.before, event, answer, &seen.changes()),
-        (Some(Record::Opening { .. }), Ok(_)) => vec![Told {
+        (Some(Record::Opening { edition, .. }), Ok(_)) => vec![Told {
             part: "all",
-            how: FRESH.to_string(),
+            how: format!("edition {} ({}), {FRESH}", edition.name(), edition.number()),
         }],
         _ => Vec::new(),
     };

@@ -1,13 +1,15 @@
 //! A record as numbers, as the proved engine's library has it: what a record
-//! has not is 0, and an opening has its cards and blocks in the places of a
-//! card and a block.
+//! has not is 0, and an opening has its edition, cards and blocks in the places
+//! of a kind, a card and a block.
 
 use crate::chassis::Mask;
+use crate::edition::Edition;
 use crate::events::Event;
 use crate::journal::{
     Record, TAG_ASK, TAG_COPY, TAG_DELIVER, TAG_DROP, TAG_LOAD, TAG_OPENING, TAG_ORDER, TAG_REJOIN,
     TAG_STORE,
 };
+use crate::refusal::Refusal;
 
 /// The place of each number.
 pub const TAG: usize = 0;
@@ -27,7 +29,15 @@ pub type Fields = [u64; FIELDS];
 /// The numbers of a record.
 pub fn fields_of(record: Record) -> Fields {
     match record {
-        Record::Opening { cards, blocks } => with_cell(TAG_OPENING, cards, blocks),
+        Record::Opening {
+            edition,
+            cards,
+            blocks,
+        } => {
+            let mut fields = with_cell(TAG_OPENING, cards, blocks);
+            fields[KIND] = edition.number().into();
+            fields
+        }
         Record::Event(event) => fields_of_event(event),
     }
 }
@@ -76,13 +86,14 @@ fn with<const BYTES: usize>(tag: u8, bytes: [(usize, u8); BYTES]) -> Fields {
 }
 
 /// The record of these numbers, of which those that it has not do not count;
-/// none if no record has the tag.
-pub fn record_of(fields: &Fields) -> Option<Record> {
+/// 21 if no record has the tag, 23 for an opening of no edition.
+pub fn record_of(fields: &Fields) -> Result<Record, Refusal> {
     let byte = |at: usize| fields[at] as u8;
     let (card, block, position) = (byte(CARD), byte(BLOCK), byte(POSITION));
-    Some(Record::Event(match byte(TAG) {
+    Ok(Record::Event(match byte(TAG) {
         TAG_OPENING => {
-            return Some(Record::Opening {
+            return Ok(Record::Opening {
+                edition: Edition::of(byte(KIND).into()).ok_or(Refusal::WrongOpening)?,
                 cards: card,
                 blocks: block,
             })
@@ -104,6 +115,6 @@ pub fn record_of(fields: &Fields) -> Option<Record> {
         TAG_DELIVER => Event::Deliver { position },
         TAG_COPY => Event::Copy { position },
         TAG_REJOIN => Event::Rejoin { card },
-        _ => return None,
+        _ => return Err(Refusal::UnknownTag),
     }))
 }

@@ -20,8 +20,9 @@ const OF_SIZES: [Clause; 4] = [
 ];
 
 /// The other clauses.
-const OF_PLACES: [Clause; 23] = [
+const OF_PLACES: [Clause; 24] = [
     ("code of a state", Chassis::states_are_known),
+    ("state of MOSI in MSI", Chassis::states_are_of_the_edition),
     ("code of a kind", Chassis::kinds_are_known),
     ("card that owns", Chassis::owners_are_there),
     ("card that asks", Chassis::askers_are_there),
@@ -91,6 +92,12 @@ impl Chassis {
 
     fn states_are_known(&self) -> bool {
         self.all_cells(|cell| usize::from(cell.state) < STATES)
+    }
+
+    /// Of the states that there are: one that is none is another clause's.
+    fn states_are_of_the_edition(&self) -> bool {
+        let is_known = |state: u8| usize::from(state) < STATES;
+        self.all_cells(|cell| table::has_state(self.edition, cell.state) || !is_known(cell.state))
     }
 
     fn kinds_are_known(&self) -> bool {

@@ -4,9 +4,11 @@ use crate::characters::{Character, Sizes, CHARACTERS, HITS};
 use crate::chassis::{Chassis, LINE_ROOM, MAX_BLOCKS, MAX_CARDS};
 use crate::choose::{blind_event, choose_event};
 use crate::damage::damage;
+use crate::edition::{Edition, EDITIONS};
 use crate::journal::{append, Record};
 use crate::random::Random;
 use crate::replay::JOURNAL_LIMIT;
+use crate::script::{journal_of, start_of};
 
 /// Percent of journals whose sizes no chassis can have.
 const SIZES_OUT_OF_RANGE: u32 = 3;
@@ -64,11 +66,12 @@ pub fn generate(seed: u64, damaged: bool) -> Vec<u8> {
     }
 }
 
-/// A journal of one character throughout, on a chassis of sizes it needs.
-pub fn generate_of(character: &Character, seed: u64, events: usize) -> Vec<u8> {
+/// A journal of one character throughout, on a chassis of an edition and of
+/// sizes that the character needs.
+pub fn generate_of(edition: Edition, character: &Character, seed: u64, events: usize) -> Vec<u8> {
     let mut random = Random::new(seed);
     let (cards, blocks) = pick_sizes(&mut random, character.sizes);
-    let mut growing = Growing::start(cards, blocks);
+    let mut growing = Growing::start(edition, cards, blocks);
     for _ in 0..events {
         growing.add(&mut random, character);
     }
@@ -77,13 +80,14 @@ pub fn generate_of(character: &Character, seed: u64, events: usize) -> Vec<u8> {
 
 /// A journal without damage. Its sizes may be out of range.
 pub(crate) fn sound_journal(random: &mut Random) -> Vec<u8> {
+    let edition = pick_edition(random);
     let own = pick_character(random);
     let (cards, blocks) = pick_sizes(random, own.sizes);
     let goal = pick_goal(random);
     if random.percent(SIZES_OUT_OF_RANGE) {
-        return refused_start(random, cards, blocks);
+        return refused_start(random, edition, cards, blocks);
     }
-    let mut growing = Growing::start(cards, blocks);
+    let mut growing = Growing::start(edition, cards, blocks);
     while !growing.has_reached(&goal) {
         let character = if random.percent(OTHER_CHARACTER) {
             pick_character(random)
@@ -109,12 +113,11 @@ struct Growing {
 
 impl Growing {
     /// A journal that has its opening only.
-    fn start(cards: u8, blocks: u8) -> Growing {
-        let mut journal = Vec::new();
-        append(&mut journal, Record::Opening { cards, blocks });
+    fn start(edition: Edition, cards: u8, blocks: u8) -> Growing {
+        let started = Chassis::start(edition, cards, blocks);
         Growing {
-            journal,
-            chassis: Chassis::start(cards, blocks).unwrap_or(Chassis::unused()),
+            journal: journal_of([start_of(edition, cards, blocks)]),
+            chassis: started.unwrap_or(Chassis::unused()),
             events: 0,
         }
     }
@@ -132,6 +135,11 @@ impl Growing {
     fn has_reached(&self, goal: &Goal) -> bool {
         self.events >= goal.events && self.journal.len() >= goal.bytes
     }
+}
+
+/// One of the editions, each as often.
+pub(crate) fn pick_edition(random: &mut Random) -> Edition {
+    EDITIONS[random.place(EDITIONS.len())]
 }
 
 /// One of the characters.
@@ -190,7 +198,7 @@ fn pick_goal(random: &mut Random) -> Goal {
 }
 
 /// A journal that starts a chassis of sizes out of range and goes on.
-fn refused_start(random: &mut Random, cards: u8, blocks: u8) -> Vec<u8> {
+fn refused_start(random: &mut Random, edition: Edition, cards: u8, blocks: u8) -> Vec<u8> {
     let too_many_cards = random.byte_between(MAX_CARDS as u8 + 1, u8::MAX);
     let too_many_blocks = random.byte_between(MAX_BLOCKS as u8 + 1, u8::MAX);
     let (cards, blocks) = match random.below(4) {
@@ -199,8 +207,7 @@ fn refused_start(random: &mut Random, cards: u8, blocks: u8) -> Vec<u8> {
         2 => (cards, 0),
         _ => (cards, too_many_blocks),
     };
-    let mut journal = Vec::new();
-    append(&mut journal, Record::Opening { cards, blocks });
+    let mut journal = journal_of([start_of(edition, cards, blocks)]);
     for _ in 0..random.below(5) {
         let event = blind_event(random, cards, blocks);
         append(&mut journal, Record::Event(event));

@@ -4,18 +4,29 @@
 use std::slice;
 
 use crate::chassis::{Cell, Chassis, HomeBlock, Message, OrderNumber, Request, Retry};
+use crate::edition::Edition;
 use crate::refusal::Refusal;
 use crate::words::WORDS;
 
-/// What is wrong with words that are those of no chassis at all.
+/// What is wrong with words that are those of no chassis at all: the edition's
+/// is no edition's number, or another is too large for its field.
+pub const NO_EDITION: &str = "code of an edition";
 pub const TOO_LARGE: &str = "word too large";
 
 impl Chassis {
-    /// The chassis that is laid out as these words; none if a word is too
-    /// large for its field. It may be ill formed.
-    pub fn of_words(words: &[u64; WORDS]) -> Option<Chassis> {
-        let mut left = Left(words.iter());
+    /// The chassis that is laid out as these words; what is wrong with them if
+    /// they are those of none. It may be ill formed.
+    pub fn of_words(words: &[u64; WORDS]) -> Result<Chassis, &'static str> {
+        let (edition, left) = (words[0], &words[1..]);
+        let edition = Edition::of(edition).ok_or(NO_EDITION)?;
+        Chassis::of_fields(edition, Left(left.iter())).ok_or(TOO_LARGE)
+    }
+
+    /// The chassis of an edition and of the words behind it; none if one is too
+    /// large for its field.
+    fn of_fields(edition: Edition, mut left: Left) -> Option<Chassis> {
         let mut chassis = Chassis::unused();
+        chassis.edition = edition;
         chassis.cards = left.field()?;
         chassis.blocks = left.field()?;
         chassis.line.count = left.field()?;
@@ -38,7 +49,7 @@ impl Chassis {
 
     /// The well formed chassis of these words; 15 if they are not those of one.
     pub fn handed_in(words: &[u64; WORDS]) -> Result<Chassis, Refusal> {
-        let chassis = Chassis::of_words(words);
+        let chassis = Chassis::of_words(words).ok();
         let well_formed = chassis.filter(Chassis::well_formed);
         well_formed.ok_or(Refusal::IllFormed)
     }
@@ -48,8 +59,8 @@ impl Chassis {
 /// where they are those of a well formed chassis.
 pub fn wrong_with(words: &[u64; WORDS]) -> Vec<&'static str> {
     match Chassis::of_words(words) {
-        Some(chassis) => chassis.broken_clauses(),
-        None => vec![TOO_LARGE],
+        Ok(chassis) => chassis.broken_clauses(),
+        Err(wrong) => vec![wrong],
     }
 }
 

@@ -5,7 +5,7 @@ use crate::words::{BLOCK_WORDS, CELL_WORDS, HEADER_WORDS, HOME_WORDS, PLACE_WORD
 
 /// The words of each part, in their order.
 #[rustfmt::skip]
-const HEADER: [&str; HEADER_WORDS] = ["cards", "blocks", "count of the line", "count of the pool", "last order number"];
+const HEADER: [&str; HEADER_WORDS] = ["edition", "cards", "blocks", "count of the line", "count of the pool", "last order number"];
 const HOME: [&str; HOME_WORDS] = ["memory", "owner", "sharers"];
 const CELL: [&str; CELL_WORDS] = ["state", "value", "awaited number"];
 const REQUEST: [&str; PLACE_WORDS] = ["card", "block", "kind", "mask", "retry"];

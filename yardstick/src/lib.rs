@@ -8,6 +8,7 @@
 
 mod amounts;
 pub mod arguments;
+mod by_hand;
 pub mod cases;
 pub mod changes;
 pub mod characters;
@@ -16,6 +17,7 @@ pub mod choose;
 pub mod compare;
 pub mod counts;
 pub mod damage;
+pub mod edition;
 pub mod ended;
 pub mod engine;
 pub mod events;
@@ -34,6 +36,7 @@ pub mod marked;
 pub mod mistakes;
 pub mod names;
 pub mod order;
+pub mod owned;
 pub mod picked;
 pub mod picture;
 pub mod program;

@@ -6,7 +6,7 @@ use crate::random::Random;
 use crate::refusal::Refusal;
 
 /// How many numbers a look shows; those that it has not are 0.
-pub const SEEN: usize = 5;
+pub const SEEN: usize = 6;
 
 /// The numbers that a look shows.
 pub type Seen = [u64; SEEN];
@@ -34,9 +34,10 @@ impl Chassis {
     }
 
     fn seen_counts(&self) -> Seen {
-        let counts = [self.line.count(), self.pool.count()].map(|count| count as u64);
-        let sizes = [self.cards, self.blocks].map(u64::from);
-        [sizes[0], sizes[1], counts[0], counts[1], self.last_order.0]
+        let [edition, cards, blocks] =
+            [self.edition.number(), self.cards, self.blocks].map(u64::from);
+        let [waiting, pooled] = [self.line.count(), self.pool.count()].map(|count| count as u64);
+        [edition, cards, blocks, waiting, pooled, self.last_order.0]
     }
 
     fn seen_message(&self, position: u8) -> Result<Seen, Refusal> {
@@ -45,7 +46,7 @@ impl Chassis {
         let [sender, receiver, block] =
             [message.sender, message.receiver, message.block].map(u64::from);
         let value = u64::from(message.value);
-        Ok([sender, receiver, block, value, message.number.0])
+        Ok([sender, receiver, block, value, message.number.0, 0])
     }
 
     fn seen_request(&self, position: u8) -> Result<Seen, Refusal> {
@@ -53,7 +54,7 @@ impl Chassis {
         let request = request.ok_or(Refusal::NoSuchPosition)?;
         let [card, block, kind] = [request.card, request.block, request.kind].map(u64::from);
         let mask = u64::from(request.mask);
-        Ok([card, block, kind, mask, u64::from(request.retry.0)])
+        Ok([card, block, kind, mask, u64::from(request.retry.0), 0])
     }
 
     fn seen_cell(&self, card: u8, block: u8) -> Result<Seen, Refusal> {
@@ -63,14 +64,14 @@ impl Chassis {
         self.has_block(block)?;
         let cell = self.cell(card, block);
         let (state, value) = (u64::from(cell.state), u64::from(cell.value));
-        Ok([state, value, cell.awaited.0, 0, 0])
+        Ok([state, value, cell.awaited.0, 0, 0, 0])
     }
 
     fn seen_home(&self, block: u8) -> Result<Seen, Refusal> {
         self.has_block(block)?;
         let home = &self.home[usize::from(block)];
         let (memory, owner) = (u64::from(home.memory), u64::from(home.owner));
-        Ok([memory, owner, u64::from(home.sharers), 0, 0])
+        Ok([memory, owner, u64::from(home.sharers), 0, 0, 0])
     }
 
     fn has_block(&self, block: u8) -> Result<(), Refusal> {

@@ -1,18 +1,20 @@
 //! A journal from its readable form: an event a line, as `show` writes it.
-//! What follows `#` is a comment, and blank lines are passed over. A number is
-//! decimal, or hex after `0x`; a mask is 8 binary digits, or hex after `0x`;
+//! What follows `#` is a comment, and blank lines are passed over. A start that
+//! does not name its edition is of MSI. A number is decimal, or hex after `0x`; a mask is 8 binary digits, or hex after `0x`;
 //! each of the bytes after the word `bytes` is two hex digits.
 
+use crate::edition::EDITIONS;
 use crate::files::LONGEST_JOURNAL;
-use crate::journal::{append, read_record};
+use crate::journal::{append, read_record, Record};
 use crate::mistakes::{Mistake, Mistakes};
-use crate::script::{ask, copy, deliver, drop_copy, load, order, rejoin, start, store};
+use crate::script::{ask, copy, deliver, drop_copy, load, order, rejoin, start_of, store};
 use crate::table::{GETS, GETX, PUTX};
 use crate::text::{is_utf_16, line_of, unmarked, Words};
 
 /// What is expected where it is not found.
 const AN_EVENT: &str =
     "start, load, store, ask, drop, order, deliver, copy, rejoin or bytes is expected";
+const AN_EDITION: &str = "MSI, MOSI or a number of cards from 0 to 255 is expected";
 const A_BYTE: &str = "a number from 0 to 255 is expected";
 const A_VALUE: &str = "a number from 0 to 4294967295 is expected";
 const A_KIND: &str = "GETS, GETX, PUTX or `kind` is expected";
@@ -74,7 +76,7 @@ fn add_line(journal: &mut Vec<u8>, mut words: Words<'_>) -> Result<(), Mistake> 
     };
     let words = &mut words;
     let record = match event.text {
-        "start" => start(number_of(words, "card")?, number_of(words, "block")?),
+        "start" => started(words)?,
         "load" => load(named(words, "card")?, named(words, "block")?),
         "store" => store(named(words, "card")?, named(words, "block")?, value(words)?),
         "ask" => ask(
@@ -106,9 +108,19 @@ fn add_bytes(journal: &mut Vec<u8>, words: &mut Words<'_>) -> Result<(), Mistake
     }
 }
 
+/// A start: the edition, if it is named, and the numbers of cards and blocks.
+fn started(words: &mut Words<'_>) -> Result<Record, Mistake> {
+    let named = |word: &str| EDITIONS.into_iter().find(|edition| edition.name() == word);
+    let edition = words.take_if(named);
+    let cards_expected = edition.map_or(AN_EDITION, |_| A_BYTE);
+    let cards = number_of(words, cards_expected, "card")?;
+    let blocks = number_of(words, A_BYTE, "block")?;
+    Ok(start_of(edition.unwrap_or_default(), cards, blocks))
+}
+
 /// A number of things, as `1 card` or `2 cards`.
-fn number_of(words: &mut Words<'_>, thing: &str) -> Result<u8, Mistake> {
-    let number = byte(words)?;
+fn number_of(words: &mut Words<'_>, expected: &str, thing: &str) -> Result<u8, Mistake> {
+    let number = words.expect(expected, byte_in)?;
     let is_thing = |word: &str| word.strip_suffix('s').unwrap_or(word) == thing;
     words.expect(&format!("`{thing}s` is expected"), |word| {
         is_thing(word).then_some(number)
@@ -154,7 +166,12 @@ fn mask(words: &mut Words<'_>) -> Result<u8, Mistake> {
 
 /// A byte.
 fn byte(words: &mut Words<'_>) -> Result<u8, Mistake> {
-    words.expect(A_BYTE, |word| u8::try_from(number(word)?).ok())
+    words.expect(A_BYTE, byte_in)
+}
+
+/// The byte that a word says.
+fn byte_in(word: &str) -> Option<u8> {
+    u8::try_from(number(word)?).ok()
 }
 
 /// A word that has to stand here.

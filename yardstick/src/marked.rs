@@ -1,8 +1,9 @@
 //! The paper's marked sequences as journals, M1 apart, with each record's
-//! answer as the paper has it.
+//! answer as the paper has it; and those of owned copies, M11 to M16.
 
+use crate::edition::Edition;
 use crate::journal::Record;
-use crate::script::{ask, copy, deliver, journal_of, load, order, rejoin, start, store};
+use crate::script::{ask, copy, deliver, journal_of, load, order, rejoin, start, start_of, store};
 use crate::table::{GETS, GETX, PUTX};
 
 /// A record with the refusal, or 0, and the value that answer it.
@@ -14,7 +15,7 @@ pub struct Marked {
     pub steps: Vec<Step>,
 }
 
-/// M2 to M10.
+/// M2 to M16.
 pub fn marked_sequences() -> Vec<Marked> {
     let marked = |name, steps| Marked { name, steps };
     vec![
@@ -27,6 +28,12 @@ pub fn marked_sequences() -> Vec<Marked> {
         marked("m8", m8()),
         marked("m9", m9()),
         marked("m10", m10()),
+        marked("m11", m11()),
+        marked("m12", m12()),
+        marked("m13", m13()),
+        marked("m14", m14()),
+        marked("m15", m15()),
+        marked("m16", m16()),
     ]
 }
 
@@ -164,5 +171,134 @@ fn m10() -> Vec<Step> {
     ];
     steps.extend([(copy(0), 0, 0); 63]);
     steps.extend([(copy(0), 10, 0), (deliver(64), 11, 0), (deliver(63), 0, 1)]);
+    steps
+}
+
+/// A MOSI chassis in which card 0 owns the block in M and has stored 7.
+fn owner(cards: u8) -> Vec<Step> {
+    vec![
+        (start_of(Edition::Mosi, cards, 1), 0, 0),
+        (ask(0, 0, GETX, 0), 0, 0),
+        (order(), 0, 1),
+        (deliver(0), 0, 1),
+        (store(0, 0, 7), 0, 0),
+    ]
+}
+
+/// The same, and each of the other cards has been given a copy by card 0,
+/// which is in O.
+fn owner_with_sharers(cards: u8) -> Vec<Step> {
+    let mut steps = owner(cards);
+    for card in 1..cards {
+        steps.extend([
+            (ask(card, 0, GETS, 1), 0, 0),
+            (order(), 0, 1),
+            (deliver(0), 0, 1),
+        ]);
+    }
+    steps
+}
+
+/// An M owner is asked for a copy and goes to O: both load, and it no longer
+/// stores.
+fn m11() -> Vec<Step> {
+    let mut steps = owner_with_sharers(2);
+    steps.extend([
+        (load(0, 0), 0, 7),
+        (load(1, 0), 0, 7),
+        (store(0, 0, 8), 3, 0),
+    ]);
+    steps
+}
+
+/// The O owner upgrades with its two sharers in its mask, not itself, and
+/// stores.
+fn m12() -> Vec<Step> {
+    let mut steps = owner_with_sharers(3);
+    steps.extend([
+        (ask(0, 0, GETX, 0b110), 0, 0),
+        (order(), 0, 1),
+        (load(0, 0), 0, 7),
+        (load(1, 0), 3, 0),
+        (load(2, 0), 3, 0),
+        (deliver(0), 0, 1),
+        (store(0, 0, 8), 0, 0),
+        (load(0, 0), 0, 8),
+    ]);
+    steps
+}
+
+/// An upgrade behind another's GETX: the owner loses the block to it, and gets
+/// it back with what the other stored.
+fn m13() -> Vec<Step> {
+    let mut steps = owner_with_sharers(2);
+    steps.extend([
+        (ask(1, 0, GETX, 1), 0, 0),
+        (ask(0, 0, GETX, 2), 0, 0),
+        (load(0, 0), 0, 7),
+        (order(), 0, 1),
+        (load(0, 0), 3, 0),
+        (deliver(0), 0, 1),
+        (store(1, 0, 9), 0, 0),
+        (order(), 0, 1),
+        (deliver(0), 0, 1),
+        (load(0, 0), 0, 9),
+    ]);
+    steps
+}
+
+/// A put from OI_A leaves the sharer listed: a later GETX that does not name
+/// it has too small a mask.
+fn m14() -> Vec<Step> {
+    let mut steps = owner_with_sharers(2);
+    steps.extend([
+        (ask(0, 0, PUTX, 0), 0, 0),
+        (load(0, 0), 0, 7),
+        (order(), 0, 3),
+        (load(0, 0), 3, 0),
+        (load(1, 0), 0, 7),
+        (ask(0, 0, GETX, 0), 0, 0),
+        (order(), 0, 2),
+        (order(), 0, 1),
+        (load(1, 0), 3, 0),
+        (deliver(0), 0, 1),
+        (load(0, 0), 0, 7),
+    ]);
+    steps
+}
+
+/// The O owner rejoins: the sharer keeps its copy, and home gives the same
+/// value to whoever asks.
+fn m15() -> Vec<Step> {
+    let mut steps = owner_with_sharers(2);
+    steps.extend([
+        (rejoin(0), 0, 0),
+        (load(0, 0), 3, 0),
+        (load(1, 0), 0, 7),
+        (ask(0, 0, GETS, 0), 0, 0),
+        (order(), 0, 1),
+        (deliver(0), 0, 1),
+        (load(0, 0), 0, 7),
+        (load(1, 0), 0, 7),
+    ]);
+    steps
+}
+
+/// An owner whose put waits is asked for a copy: it goes to OI_A, and its put
+/// is taken after all.
+fn m16() -> Vec<Step> {
+    let mut steps = owner(2);
+    steps.extend([
+        (ask(1, 0, GETS, 1), 0, 0),
+        (ask(0, 0, PUTX, 0), 0, 0),
+        (store(0, 0, 8), 0, 0),
+        (order(), 0, 1),
+        (store(0, 0, 9), 3, 0),
+        (load(0, 0), 0, 8),
+        (deliver(0), 0, 1),
+        (order(), 0, 3),
+        (load(0, 0), 3, 0),
+        (load(1, 0), 0, 8),
+    ]);
     steps
 }

@@ -1,9 +1,9 @@
 //! The Order event: the line's head is granted, sent back or put away.
 
-use crate::chassis::{card_bit, Chassis, Message, OrderNumber, Request, HOME, LAST_RETRY};
+use crate::chassis::{card_bit, Chassis, Mask, Message, OrderNumber, Request, HOME, LAST_RETRY};
 use crate::events::Ordered;
 use crate::refusal::Refusal;
-use crate::table::{self, GETS, GETX, I, II_A, IM_AD, IS_AD, M, MI_A, PUTX, S, SM_AD};
+use crate::table::{self, GETS, GETX, I, II_A, IM_AD, IS_AD, MI_A, OI_A, OM_AD, PUTX, S, SM_AD};
 
 impl Chassis {
     /// **Order**: takes the line's head and the next order number.
@@ -51,9 +51,13 @@ impl Chassis {
         let owner = self.owner(head.block);
         match head.kind {
             GETS => state != IS_AD || !self.can_give(owner, head),
-            GETX => !matches!(state, IM_AD | SM_AD) || !self.can_give(owner, head),
+            GETX => match state {
+                IM_AD | SM_AD => !self.can_give(owner, head),
+                OM_AD => owner != head.card,
+                _ => true,
+            },
             _ => match state {
-                MI_A => owner != head.card,
+                MI_A | OI_A => owner != head.card,
                 II_A => owner == head.card,
                 _ => true,
             },
@@ -62,29 +66,32 @@ impl Chassis {
 
     /// Whether the owner is home or another card that has the data to give.
     fn can_give(&self, owner: u8, head: &Request) -> bool {
-        owner == HOME
-            || (owner != head.card && matches!(self.cell(owner, head.block).state, M | MI_A))
+        owner == HOME || (owner != head.card && table::can_give(self.cell(owner, head.block).state))
     }
 
-    /// Whether the mask suffices: it has the owner, if a card, and for GETX
-    /// also every sharer but the asker.
+    /// Whether the mask suffices.
     fn suffices(&self, head: &Request) -> bool {
-        let home = &self.home[usize::from(head.block)];
-        let mut needed = card_bit(home.owner);
-        if head.kind == GETX {
-            needed |= home.sharers & !card_bit(head.card);
+        self.needed(head) & !head.mask == 0
+    }
+
+    /// The cards that a mask has to name: for GETS the owner, if a card, for
+    /// GETX also every sharer. An upgrade's asker, who is the owner, and a
+    /// sharer that asks need not name themselves.
+    pub(crate) fn needed(&self, head: &Request) -> Mask {
+        match head.kind {
+            GETX => self.holders(head.block) & !card_bit(head.card),
+            _ => card_bit(self.owner(head.block)),
         }
-        needed & !head.mask == 0
     }
 
     /// Grants a GETS or GETX: the asker awaits a message with memory's value.
     fn grant(&mut self, head: &Request, number: OrderNumber) {
-        let sender = self.owner(head.block);
+        let sender = self.giver(head);
         if sender != HOME {
             self.give(sender, head);
         }
         if head.kind == GETS {
-            self.share(sender, head);
+            self.share(head);
         } else {
             self.hand_over(head);
         }
@@ -102,13 +109,22 @@ impl Chassis {
         });
     }
 
+    /// Who gives the data: the owner, but an upgrade's comes from home.
+    pub(crate) fn giver(&self, head: &Request) -> u8 {
+        match self.owner(head.block) {
+            owner if owner == head.card => HOME,
+            owner => owner,
+        }
+    }
+
     /// An owning card gives its value to memory and moves as the table says.
     fn give(&mut self, owner: u8, head: &Request) {
+        let edition = self.edition;
         let cell = self.cell_mut(owner, head.block);
         let value = cell.value;
         let row = table::row(cell.state);
         let seen = if head.kind == GETS {
-            row.sees_gets_as_owner
+            row.sees_gets_as_owner(edition)
         } else {
             row.sees_getx
         };
@@ -118,11 +134,14 @@ impl Chassis {
         self.home[usize::from(head.block)].memory = value;
     }
 
-    /// A granted GETS: the asker joins the sharers. If a card was the owner,
-    /// it becomes the only other sharer and home the owner.
-    fn share(&mut self, owner: u8, head: &Request) {
+    /// A granted GETS: the asker joins the sharers. If a card was the owner
+    /// and has not kept the block, it becomes the only other sharer and home
+    /// the owner.
+    fn share(&mut self, head: &Request) {
+        let owner = self.owner(head.block);
+        let keeps = owner == HOME || table::owns_shared(self.cell(owner, head.block).state);
         let home = &mut self.home[usize::from(head.block)];
-        if owner != HOME {
+        if !keeps {
             home.owner = HOME;
             home.sharers = card_bit(owner);
         }
@@ -171,23 +190,26 @@ impl Chassis {
         });
     }
 
-    /// An ordered PUTX: taken if the asker is still the owner.
+    /// An ordered PUTX: taken if the asker is still the owner. The sharers of
+    /// one that let others load beside it stay listed.
     fn put(&mut self, head: &Request) -> Ordered {
         let cell = self.cell_mut(head.card, head.block);
         let (state, value) = (cell.state, cell.value);
         cell.go_to(I);
-        if state != MI_A {
+        if state == II_A {
             return Ordered::PutLapsed;
         }
         let home = &mut self.home[usize::from(head.block)];
         home.memory = value;
         home.owner = HOME;
-        home.sharers = 0;
+        if !table::owns_shared(state) {
+            home.sharers = 0;
+        }
         Ordered::PutTaken
     }
 
     /// The block's owner, a card or home.
-    fn owner(&self, block: u8) -> u8 {
+    pub(crate) fn owner(&self, block: u8) -> u8 {
         self.home[usize::from(block)].owner
     }
 }

@@ -1,57 +1,87 @@
 //! The fixed set of journals that are stored: the marked sequences, journals
 //! written by hand, damaged ones, and a few of fixed seeds. Together they
-//! reach every case that a journal can reach.
+//! reach every case that a journal can reach, in both editions.
 
-use crate::characters::{CONTENTION, REJOINS};
-use crate::chassis::POOL_ROOM;
+use crate::by_hand::{
+    full_line, full_pool, full_pool_upgrade, last_retry, longer_than_read, owned_copies, owned_put,
+    plain_refusals,
+};
+use crate::characters::{CONTENTION, OWNERS, REJOINS};
+use crate::edition::Edition;
 use crate::generate::generate_of;
-use crate::journal::{Record, HEAD_LENGTH, MAX_RECORD_LENGTH};
+use crate::journal::HEAD_LENGTH;
 use crate::marked::marked_sequences;
-use crate::replay::JOURNAL_LIMIT;
-use crate::script::{ask, copy, deliver, drop_copy, journal_of, load, order, rejoin, start, store};
-use crate::table::{GETS, GETX, PUTX};
+use crate::script::{ask, journal_of, order, start, start_of, store};
+use crate::table::{GETS, GETX};
 
 /// How many events a stored journal of a fixed seed has.
 const EVENTS: usize = 1_000;
 
 /// A journal named by what it shows.
 pub struct Picked {
-    pub name: &'static str,
+    pub name: String,
     pub journal: Vec<u8>,
 }
 
 /// All picked journals, in the order used.
 pub fn picked_journals() -> Vec<Picked> {
+    let (msi, mosi) = (Edition::Msi, Edition::Mosi);
     let mut all = Vec::new();
     for marked in marked_sequences() {
         all.push(picked(marked.name, marked.journal()));
     }
-    all.extend(written_by_hand());
+    all.extend(written_by_hand(msi));
+    all.push(picked("longer_than_read", journal_of(longer_than_read())));
     all.extend(damaged());
     all.extend(damaged_at_once());
     all.extend([
-        picked("contention_1", generate_of(&CONTENTION, 1, EVENTS)),
-        picked("rejoins_1", generate_of(&REJOINS, 1, EVENTS)),
+        picked("contention_1", generate_of(msi, &CONTENTION, 1, EVENTS)),
+        picked("rejoins_1", generate_of(msi, &REJOINS, 1, EVENTS)),
+    ]);
+    for same in written_by_hand(mosi) {
+        all.push(picked(&format!("mosi_{}", same.name), same.journal));
+    }
+    all.extend(damaged_openings_of_mosi());
+    all.extend([
+        picked("owned_copies", journal_of(owned_copies())),
+        picked("owned_put", journal_of(owned_put())),
+        picked("full_pool_upgrade", journal_of(full_pool_upgrade())),
+        picked("owners_1", generate_of(mosi, &OWNERS, 1, EVENTS)),
     ]);
     all
 }
 
 /// A name with its journal.
-fn picked(name: &'static str, journal: Vec<u8>) -> Picked {
+fn picked(name: &str, journal: Vec<u8>) -> Picked {
+    let name = name.to_string();
     Picked { name, journal }
 }
 
-/// The journals written by hand that have no damage.
-fn written_by_hand() -> [Picked; 8] {
+/// The journals written by hand that have no damage and are of either edition.
+fn written_by_hand(edition: Edition) -> [Picked; 7] {
+    let refused = |cards, blocks| journal_of([start_of(edition, cards, blocks), order()]);
     [
-        picked("no_cards", journal_of([start(0, 1), order()])),
-        picked("too_many_blocks", journal_of([start(8, 33), order()])),
-        picked("plain_refusals", journal_of(plain_refusals())),
-        picked("full_line", journal_of(full_line())),
-        picked("full_pool", journal_of(full_pool())),
-        picked("last_retry_gets", journal_of(last_retry(GETS))),
-        picked("last_retry_getx", journal_of(last_retry(GETX))),
-        picked("longer_than_read", journal_of(longer_than_read())),
+        picked("no_cards", refused(0, 1)),
+        picked("too_many_blocks", refused(8, 33)),
+        picked("plain_refusals", journal_of(plain_refusals(edition))),
+        picked("full_line", journal_of(full_line(edition))),
+        picked("full_pool", journal_of(full_pool(edition))),
+        picked("last_retry_gets", journal_of(last_retry(edition, GETS))),
+        picked("last_retry_getx", journal_of(last_retry(edition, GETX))),
+    ]
+}
+
+/// An opening of MOSI that is wrong, and one that is not the first record.
+fn damaged_openings_of_mosi() -> [Picked; 2] {
+    let opening = start_of(Edition::Mosi, 2, 1);
+    let mut wrong_opening = journal_of([opening, order()]);
+    wrong_opening[HEAD_LENGTH + 3] = b'2';
+    [
+        picked(
+            "mosi_second_opening",
+            journal_of([opening, order(), opening]),
+        ),
+        picked("mosi_wrong_opening", wrong_opening),
     ]
 }
 
@@ -91,120 +121,4 @@ fn damaged_at_once() -> [Picked; 3] {
         picked("first_tag_unknown", [&[0x18, 0, 0], &good[..]].concat()),
         picked("first_of_wrong_length", wrong_length),
     ]
-}
-
-/// Each refusal that needs no long history, also where two tests say no.
-fn plain_refusals() -> Vec<Record> {
-    let mut records = vec![start(2, 2)];
-    for (card, block) in [(2, 2), (0, 2), (0, 0)] {
-        records.extend([
-            load(card, block),
-            store(card, block, 1),
-            drop_copy(card, block),
-        ]);
-        records.extend([ask(card, block, 0, 255), ask(card, block, 4, 255)]);
-    }
-    records.extend([
-        ask(0, 0, PUTX, 4),
-        ask(0, 0, PUTX, 3),
-        order(),
-        deliver(0),
-        copy(0),
-        rejoin(2),
-        // A held block is ordered for no one.
-        ask(0, 0, GETS, 0),
-        order(),
-        ask(1, 0, GETS, 0),
-        order(),
-        rejoin(1),
-        ask(1, 0, GETX, 0),
-        order(),
-        deliver(0),
-        drop_copy(0, 0),
-        load(0, 0),
-    ]);
-    records
-}
-
-/// Asks of two cards for all blocks fill the line.
-fn full_line() -> Vec<Record> {
-    let mut records = vec![start(8, 32)];
-    for block in 0..32 {
-        records.extend([ask(0, block, GETS, 0), ask(1, block, GETX, 0)]);
-    }
-    records.extend([
-        ask(2, 0, GETX, 0),
-        order(),
-        ask(2, 0, GETX, 0),
-        ask(2, 1, GETX, 0),
-        rejoin(0),
-        ask(2, 1, GETX, 0),
-        order(),
-        deliver(0),
-        order(),
-    ]);
-    records
-}
-
-/// A full pool: a put needs no room in it, a fetch does.
-fn full_pool() -> Vec<Record> {
-    let mut records = vec![start(2, 1), ask(0, 0, GETX, 0), order()];
-    records.extend([copy(0); POOL_ROOM - 1]);
-    records.extend([
-        copy(0),
-        deliver(64),
-        deliver(63),
-        copy(62),
-        copy(0),
-        store(0, 0, 9),
-        ask(0, 0, PUTX, 0),
-        order(),
-        ask(0, 0, GETS, 0),
-        order(),
-        rejoin(0),
-        ask(1, 0, GETX, 0),
-        order(),
-        deliver(5),
-        order(),
-        deliver(63),
-        load(1, 0),
-    ]);
-    records
-}
-
-/// Card 1's request is sent back three times, since cards 0 and 2 hand the
-/// block to and fro. With every card in its mask it waits for the held block,
-/// then for room in the pool, and is granted. A stale message stays at the
-/// pool's head, to be copied.
-fn last_retry(kind: u8) -> Vec<Record> {
-    let mut records = vec![
-        start(3, 1),
-        ask(0, 0, GETX, 0),
-        order(),
-        copy(0),
-        deliver(0),
-    ];
-    records.push(ask(1, 0, kind, 0));
-    for (card, owner, value) in [(2, 0, 5), (0, 2, 6), (2, 0, 7)] {
-        records.extend([
-            ask(card, 0, GETX, 1 << owner),
-            order(),
-            order(),
-            order(),
-            deliver(1),
-            store(card, 0, value),
-        ]);
-    }
-    records.extend([copy(0); POOL_ROOM - 1]);
-    records.extend([order(), deliver(0), order(), deliver(63), load(1, 0)]);
-    records
-}
-
-/// More bytes than are read. Stores are the longest events, so the lines are
-/// few; one store has its first two bytes before the limit and the rest past
-/// it.
-fn longer_than_read() -> Vec<Record> {
-    let mut records = vec![start(1, 1), ask(0, 0, GETX, 0), order(), deliver(0)];
-    records.extend([store(0, 0, 7); JOURNAL_LIMIT / MAX_RECORD_LENGTH]);
-    records
 }

@@ -68,7 +68,7 @@ fn wrong_opening(subject: Subject) -> &'static str {
         Subject::EmptyJournal => "the journal is empty",
         Subject::FirstNotOpening => "the first record is not an opening",
         Subject::LaterOpening => "only the first record may be an opening",
-        _ => "an opening's first four bytes are coh1",
+        _ => "an opening's first four bytes are coh1 or moh1",
     }
 }
 
@@ -227,11 +227,9 @@ fn impossible(chassis: &Chassis, head: &Request) -> String {
 /// Outcome 2 of an Order: the cards that it needs and its mask has not.
 fn misses(chassis: &Chassis, head: &Request) -> Option<String> {
     let home = chassis.home.get(usize::from(head.block))?;
-    let owner = card_bit(home.owner) & !head.mask;
-    let sharers = match head.kind {
-        GETX => home.sharers & !card_bit(head.card) & !head.mask,
-        _ => 0,
-    };
+    let all = chassis.needed(head) & !head.mask;
+    let owner = all & card_bit(home.owner);
+    let sharers = all & !owner;
     let of_kind = |cards: u8, name| (cards != 0).then(|| format!("{} ({name})", Cards(cards)));
     let sharer = match sharers.count_ones() {
         1 => "sharer",

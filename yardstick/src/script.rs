@@ -1,5 +1,6 @@
 //! Short names for the records of journals written by hand.
 
+use crate::edition::Edition;
 use crate::events::Event;
 use crate::journal::{append, Record};
 
@@ -12,8 +13,17 @@ pub fn journal_of(records: impl IntoIterator<Item = Record>) -> Vec<u8> {
     journal
 }
 
+/// The start of an MSI chassis.
 pub fn start(cards: u8, blocks: u8) -> Record {
-    Record::Opening { cards, blocks }
+    start_of(Edition::Msi, cards, blocks)
+}
+
+pub fn start_of(edition: Edition, cards: u8, blocks: u8) -> Record {
+    Record::Opening {
+        edition,
+        cards,
+        blocks,
+    }
 }
 
 pub fn load(card: u8, block: u8) -> Record {

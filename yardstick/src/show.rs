@@ -5,6 +5,7 @@
 use std::fmt::{self, Write};
 
 use crate::amounts::Many;
+use crate::edition::Edition;
 use crate::ended::unread;
 use crate::events::Event;
 use crate::journal::{Reader, Record};
@@ -109,16 +110,29 @@ impl fmt::Display for Record {
     /// The record as one line, without its end.
     fn fmt(&self, out: &mut fmt::Formatter<'_>) -> fmt::Result {
         match self {
-            Record::Opening { cards, blocks } => {
+            Record::Opening {
+                edition,
+                cards,
+                blocks,
+            } => {
                 write!(
                     out,
-                    "start {} {}",
+                    "start {}{} {}",
+                    named(*edition),
                     Many(usize::from(*cards), "card"),
                     Many(usize::from(*blocks), "block")
                 )
             }
             Record::Event(event) => write!(out, "{event}"),
         }
+    }
+}
+
+/// How a start names its edition. MSI is what it is of if it names none.
+fn named(edition: Edition) -> &'static str {
+    match edition {
+        Edition::Msi => "",
+        Edition::Mosi => "MOSI ",
     }
 }
 

@@ -73,7 +73,7 @@ fn files() -> Result<Vec<File>, String> {
         stdout.push_str(&name);
         stdout.push_str(&replay(&picked.journal));
         files.push(File {
-            path: Path::new(DATA).join(picked.name),
+            path: Path::new(DATA).join(&picked.name),
             bytes: picked.journal,
         });
     }

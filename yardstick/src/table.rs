@@ -1,5 +1,7 @@
 //! The card state table and the kinds of request, as data.
 
+use crate::edition::Edition;
+
 /// A state's number in the paper's table.
 pub const I: u8 = 0;
 pub const S: u8 = 1;
@@ -12,13 +14,17 @@ pub const IM_D: u8 = 7;
 pub const SM_D: u8 = 8;
 pub const MI_A: u8 = 9;
 pub const II_A: u8 = 10;
+pub const O: u8 = 11;
+pub const OM_AD: u8 = 12;
+pub const OI_A: u8 = 13;
 
-/// The number of states.
-pub const STATES: usize = 11;
+/// The number of states. An MSI chassis has those below O alone.
+pub const STATES: usize = 14;
 
 /// The states' names, in the order of their numbers.
 pub const NAMES: [&str; STATES] = [
-    "I", "S", "M", "IS_AD", "IM_AD", "SM_AD", "IS_D", "IM_D", "SM_D", "MI_A", "II_A",
+    "I", "S", "M", "IS_AD", "IM_AD", "SM_AD", "IS_D", "IM_D", "SM_D", "MI_A", "II_A", "O", "OM_AD",
+    "OI_A",
 ];
 
 /// A kind of request.
@@ -34,8 +40,15 @@ pub struct Row {
     pub ask_gets: Option<u8>,
     pub ask_getx: Option<u8>,
     pub ask_putx: Option<u8>,
-    pub sees_gets_as_owner: Option<u8>,
+    pub sees_gets_as_owner: Option<ByEdition>,
     pub sees_getx: Option<u8>,
+}
+
+/// A move that is another in each edition.
+#[derive(Clone, Copy)]
+pub struct ByEdition {
+    msi: u8,
+    mosi: u8,
 }
 
 /// A row with every place empty.
@@ -55,7 +68,8 @@ const TABLE: [Row; STATES] = [
     /* I     */ Row { ask_gets: Some(IS_AD), ask_getx: Some(IM_AD), ..EMPTY },
     /* S     */ Row { load: true, ask_getx: Some(SM_AD), sees_getx: Some(I), ..EMPTY },
     /* M     */ Row { load: true, store: true, ask_putx: Some(MI_A),
-                      sees_gets_as_owner: Some(S), sees_getx: Some(I), ..EMPTY },
+                      sees_gets_as_owner: Some(ByEdition { msi: S, mosi: O }),
+                      sees_getx: Some(I), ..EMPTY },
     /* IS_AD */ EMPTY,
     /* IM_AD */ EMPTY,
     /* SM_AD */ Row { load: true, sees_getx: Some(IM_AD), ..EMPTY },
@@ -63,8 +77,13 @@ const TABLE: [Row; STATES] = [
     /* IM_D  */ EMPTY,
     /* SM_D  */ Row { load: true, ..EMPTY },
     /* MI_A  */ Row { load: true, store: true,
-                      sees_gets_as_owner: Some(II_A), sees_getx: Some(II_A), ..EMPTY },
+                      sees_gets_as_owner: Some(ByEdition { msi: II_A, mosi: OI_A }),
+                      sees_getx: Some(II_A), ..EMPTY },
     /* II_A  */ EMPTY,
+    /* O     */ Row { load: true, ask_getx: Some(OM_AD), ask_putx: Some(OI_A),
+                      sees_getx: Some(I), ..EMPTY },
+    /* OM_AD */ Row { load: true, sees_getx: Some(IM_AD), ..EMPTY },
+    /* OI_A  */ Row { load: true, sees_getx: Some(II_A), ..EMPTY },
 ];
 
 /// The row of a state. A code outside the table has no right and no move.
@@ -82,6 +101,33 @@ impl Row {
             _ => None,
         }
     }
+
+    /// Where an owner's seeing a GETS leads in an edition, if it moves.
+    pub fn sees_gets_as_owner(&self, edition: Edition) -> Option<u8> {
+        self.sees_gets_as_owner.map(|leads| match edition {
+            Edition::Msi => leads.msi,
+            Edition::Mosi => leads.mosi,
+        })
+    }
+}
+
+/// Whether a cell of a chassis of this edition may be in a state.
+pub fn has_state(edition: Edition, state: u8) -> bool {
+    match edition {
+        Edition::Msi => state < O,
+        Edition::Mosi => usize::from(state) < STATES,
+    }
+}
+
+/// Whether an owner in this state has the block's value to give.
+pub fn can_give(state: u8) -> bool {
+    matches!(state, M | MI_A) || owns_shared(state)
+}
+
+/// Whether an owner in this state lets other cards load the block beside it:
+/// a GETS leaves it the owner.
+pub fn owns_shared(state: u8) -> bool {
+    matches!(state, O | OM_AD | OI_A)
 }
 
 /// Whether a card in this state waits for data on its way.
@@ -94,7 +140,7 @@ pub fn when_granted(state: u8) -> Option<u8> {
     match state {
         IS_AD => Some(IS_D),
         IM_AD => Some(IM_D),
-        SM_AD => Some(SM_D),
+        SM_AD | OM_AD => Some(SM_D),
         _ => None,
     }
 }

@@ -78,6 +78,13 @@ impl<'a> Words<'a> {
         self.left.pop()
     }
 
+    /// Takes the next word if `read` makes something of it, or leaves it.
+    pub fn take_if<T>(&mut self, read: impl Fn(&str) -> Option<T>) -> Option<T> {
+        let found = read(self.left.last()?.text)?;
+        self.take();
+        Some(found)
+    }
+
     /// Whether every word is taken.
     pub fn is_over(&self) -> bool {
         self.left.is_empty()

@@ -71,7 +71,8 @@ the proved program does, and no more. The status says nothing of the journal.",
         form: "--seed N [--damaged] > JOURNAL",
         what: "the journal of a seed",
         more: "\
-Writes the same journal for a seed on every machine.
+Writes the same journal for a seed on every machine. Half of the seeds are of
+the MOSI edition.
 
   --seed N      the seed, from 0 to 2^64 - 1
   --damaged     the seed's journal with some damage",
@@ -82,8 +83,9 @@ Writes the same journal for a seed on every machine.
         form: "[--seeds N]",
         what: "how often each case is reached",
         more: "\
-Counts how often generated journals reach each event and answer. Ends with
-status 1 if one that a journal can reach is missing.
+Counts how often generated journals reach each event and answer, in each edition
+of the chassis, and what is done with owned copies. Ends with status 1 if one
+that a journal can reach is missing.
 
   --seeds N     so many seeds, from 0 on; 2,000 if nothing is said",
     },
@@ -106,6 +108,8 @@ is pointed at by its byte place. `make` gives the same bytes again.",
         what: "the journal of a readable form",
         more: "\
 Turns a text, an event a line, into a journal; examples/README.md has the form.
+A start may name its edition, as `start MOSI 2 cards 1 block`; it is MSI if it
+names none.
 The text is UTF-8, with a byte order mark or without. Each line with a mistake
 is told with the mistake's line and column, up to twenty of them; then nothing
 is written.

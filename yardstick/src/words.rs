@@ -7,7 +7,7 @@ use crate::chassis::{
 
 /// The words of the header, of home's part of a block, of a cell, and of a
 /// place of the line or the pool.
-pub(crate) const HEADER_WORDS: usize = 5;
+pub(crate) const HEADER_WORDS: usize = 6;
 pub(crate) const HOME_WORDS: usize = 3;
 pub(crate) const CELL_WORDS: usize = 3;
 pub(crate) const PLACE_WORDS: usize = 5;
@@ -19,7 +19,7 @@ pub(crate) const BLOCK_WORDS: usize = HOME_WORDS + CELL_WORDS * MAX_CARDS;
 pub const WORDS: usize =
     HEADER_WORDS + BLOCK_WORDS * MAX_BLOCKS + PLACE_WORDS * (LINE_ROOM + POOL_ROOM);
 
-/// The words that a refused Start leaves: 0 cards, 0 blocks, all unused.
+/// The words that a refused Start leaves: MSI, 0 cards, 0 blocks, all unused.
 pub fn unused_words() -> [u64; WORDS] {
     Chassis::unused().words()
 }
@@ -42,10 +42,11 @@ impl Chassis {
         words
     }
 
-    /// The sizes, how many wait in the line and are in the pool, and the last
-    /// order number.
+    /// The edition, the sizes, how many wait in the line and are in the pool,
+    /// and the last order number.
     fn header_words(&self) -> [u64; HEADER_WORDS] {
         [
+            u64::from(self.edition.number()),
             u64::from(self.cards),
             u64::from(self.blocks),
             self.line.count() as u64,

@@ -103,9 +103,14 @@ fn same_looks(state: &[u64; WORDS], told: Option<&Chassis>, number: u64) -> Resu
 fn tell(told: &mut Option<Chassis>, seen: &Seen<'_>) {
     match (told, seen.record) {
         (Some(told), _) => seen.changes().iter().for_each(|change| change.make(told)),
-        (told, Some(Record::Opening { cards, blocks })) => {
-            *told = Chassis::start(cards, blocks).ok()
-        }
+        (
+            told,
+            Some(Record::Opening {
+                edition,
+                cards,
+                blocks,
+            }),
+        ) => *told = Chassis::start(edition, cards, blocks).ok(),
         _ => {}
     }
 }

@@ -8,6 +8,7 @@ pub(crate) mod words;
 pub use page::page;
 
 use crate::changes::Change;
+use crate::edition::Edition;
 use crate::events::Event;
 use crate::journal::Record;
 use crate::refusal::Refusal;
@@ -20,8 +21,9 @@ pub struct Picture {
     pub(crate) length: usize,
     /// How many of them are read.
     pub(crate) bytes: usize,
-    /// The sizes of the chassis; none if it was never started.
-    pub(crate) sizes: Option<(u8, u8)>,
+    /// The edition, cards and blocks of the chassis; none if it was never
+    /// started.
+    pub(crate) started: Option<(Edition, u8, u8)>,
     pub(crate) steps: Vec<Step>,
 }
 
@@ -68,7 +70,7 @@ impl Picture {
         let mut picture = Picture {
             length: journal.len(),
             bytes: counted(journal).len(),
-            sizes: run.chassis().map(|last| (last.cards, last.blocks)),
+            started: (run.chassis()).map(|last| (last.edition, last.cards, last.blocks)),
             steps,
         };
         picture.mark_cut();

@@ -7,6 +7,7 @@ use super::numbers::numbers;
 use super::words::MEANINGS;
 use super::{Kind, Picture, Step};
 use crate::amounts::{Grouped, Many};
+use crate::edition::Edition;
 use crate::refusal::Refusal;
 use crate::table;
 
@@ -87,12 +88,12 @@ fn summary(picture: &Picture) -> String {
         Many(refused.count(), "refusal"),
         Many(picture.length, "byte"),
     );
-    let Some((cards, blocks)) = picture.sizes else {
+    let Some((edition, cards, blocks)) = picture.started else {
         return format!("no chassis, {counts}");
     };
     let cards = Many(usize::from(cards), "card");
     let blocks = Many(usize::from(blocks), "block");
-    format!("{cards}, {blocks}, {counts}")
+    format!("{}, {cards}, {blocks}, {counts}", edition.name())
 }
 
 /// What a reader should know first: the damage, and bytes that are not read.
@@ -155,23 +156,25 @@ fn data(picture: &Picture) -> String {
         .iter()
         .map(|step| step_data(step, &mut texts))
         .collect();
-    let (cards, blocks) = picture.sizes.unwrap_or((0, 0));
+    let (edition, cards, blocks) = picture.started.unwrap_or_default();
     let ends = picture.ends();
     let texts: Vec<String> = texts.all.iter().map(|text| quoted(text)).collect();
     format!(
         "{{\"cards\":{cards},\"blocks\":{blocks},\"ends\":{ends},\"states\":[{}],\
          \"texts\":[{}],\"records\":[\n{}\n]}}",
-        states().join(","),
+        states(edition).join(","),
         texts.join(","),
         lines.join(",\n"),
     )
 }
 
-/// The states of the data: name, meaning, and 1 if the state may load.
-fn states() -> Vec<String> {
+/// The states of an edition for the data: name, meaning, and 1 if the state may
+/// load.
+fn states(edition: Edition) -> Vec<String> {
     let named = table::NAMES.into_iter().zip(MEANINGS);
     (0u8..)
         .zip(named)
+        .filter(|(state, _)| table::has_state(edition, *state))
         .map(|(state, (name, meaning))| {
             let load = u8::from(table::row(state).load);
             format!("[{},{},{load}]", quoted(name), quoted(meaning))

@@ -25,6 +25,9 @@ pub(crate) const MEANINGS: [&str; STATES] = [
     "GETX granted, still loads, awaits data",
     "asked PUTX, still stores",
     "asked PUTX, gave the data away",
+    "owns, loads beside sharers",
+    "owner asked GETX, still loads",
+    "owner asked PUTX, still loads",
 ];
 
 /// The record in a word or two.
@@ -136,15 +139,26 @@ fn ordered(seen: &Seen, head: Request, outcome: u32) -> String {
     let back = seen.after.line.items().last();
     match back {
         _ if outcome == Ordered::Granted as u32 => {
-            let sender = holder_name(seen.before.home[usize::from(head.block)].owner);
-            format!("{what}, granted; {sender} sends {}", home.memory)
+            let giver = seen.before.giver(&head);
+            let keeps = if home.owner == giver && giver != HOME {
+                " and keeps the block"
+            } else {
+                ""
+            };
+            let (sender, value) = (holder_name(giver), home.memory);
+            format!("{what}, granted; {sender} sends {value}{keeps}")
         }
         Some(back) if outcome == Ordered::MaskTooSmall as u32 => format!(
             "{what}, the mask is too small; back to the line's tail with retry {} and mask {:08b}",
             back.retry.0, back.mask,
         ),
         _ if outcome == Ordered::PutTaken as u32 => {
-            format!("{what}, the put is taken; memory has {}", home.memory)
+            let stay = if home.sharers == 0 {
+                ""
+            } else {
+                ", the sharers stay listed"
+            };
+            format!("{what}, the put is taken; memory has {}{stay}", home.memory)
         }
         _ => format!("{what}, the put has lapsed; home changes nothing"),
     }

@@ -19,7 +19,7 @@ const STANDING: usize = 3;
 
 #[link(name = "firmware", kind = "static")]
 extern "C" {
-    fn coherence_start(state: *mut u64, cards: u8, blocks: u8) -> u64;
+    fn coherence_start(state: *mut u64, edition: u8, cards: u8, blocks: u8) -> u64;
     fn coherence_load(state: *const u64, card: u8, block: u8) -> u64;
     fn coherence_store(state: *mut u64, card: u8, block: u8, value: u32) -> u64;
     fn coherence_drop(state: *mut u64, card: u8, block: u8) -> u64;
@@ -64,9 +64,9 @@ fn halves(answer: u64) -> Answer {
 pub struct Firmware;
 
 impl Engine for Firmware {
-    fn start(&self, words: &mut [u64; WORDS], cards: u8, blocks: u8) -> Answer {
+    fn start(&self, words: &mut [u64; WORDS], edition: u8, cards: u8, blocks: u8) -> Answer {
         // SAFETY: the state has as many words as the header names, here and below.
-        halves(unsafe { coherence_start(words.as_mut_ptr(), cards, blocks) })
+        halves(unsafe { coherence_start(words.as_mut_ptr(), edition, cards, blocks) })
     }
 
     fn apply(&self, words: &mut [u64; WORDS], event: Event) -> Answer {
@@ -135,9 +135,14 @@ fn read(journal: &[u8], place: &mut usize) -> Result<Option<Record>, u32> {
     let mut fields = [0; FIELDS];
     match Firmware.read(journal, place, &mut fields) {
         (0, 0) => Ok(None),
-        (0, _) => Ok(record_of(&fields)),
+        (0, _) => record_of(&fields).map(Some).map_err(number_of),
         (refusal, _) => Err(refusal),
     }
+}
+
+/// A refusal's number.
+fn number_of(refusal: Refusal) -> u32 {
+    u32::from(refusal.number())
 }
 
 /// A record's line of text, but for its number: the refusal or 0, and the value; and whether no line follows.
@@ -168,8 +173,8 @@ pub fn step(
     };
     Some(match read(journal, place) {
         Ok(None) if number > 0 => return None,
-        Ok(Some(Record::Opening { cards, blocks })) if number == 0 => {
-            match Firmware.start(state, cards, blocks) {
+        Ok(Some(opening @ Record::Opening { .. })) if number == 0 => {
+            match Firmware.run(state, opening) {
                 made @ (0, _) => goes_on(made),
                 (refusal, _) => ends(refusal),
             }

@@ -1,6 +1,7 @@
 //! The journals that are measured.
 
 use yardstick::characters::{Character, Choice, Sizes, CONTENTION};
+use yardstick::edition::Edition;
 use yardstick::generate::generate_of;
 use yardstick::random::Random;
 use yardstick::script::{ask, deliver, journal_of, load, order, start, store};
@@ -44,11 +45,11 @@ pub fn journals(events: usize) -> Vec<Journal> {
         },
         Journal {
             name: "contention",
-            bytes: generate_of(&CONTENTION, 1, events),
+            bytes: generate_of(Edition::Msi, &CONTENTION, 1, events),
         },
         Journal {
             name: "mixed",
-            bytes: generate_of(&MIXED, 1, events),
+            bytes: generate_of(Edition::Msi, &MIXED, 1, events),
         },
     ]
 }

@@ -84,15 +84,20 @@ fn safe_run(
         let at = reader.place() as u64;
         let (refusal, value, ends) = match (reader.read(), &mut chassis) {
             (Ok(None), Some(_)) => return count,
-            (Ok(Some(Record::Opening { cards, blocks })), None) => {
-                match Chassis::start(cards, blocks) {
-                    Ok(made) => {
-                        chassis = Some(made);
-                        (0, 0, false)
-                    }
-                    Err(refusal) => (number_of(refusal), at, true),
+            (
+                Ok(Some(Record::Opening {
+                    edition,
+                    cards,
+                    blocks,
+                })),
+                None,
+            ) => match Chassis::start(edition, cards, blocks) {
+                Ok(made) => {
+                    chassis = Some(made);
+                    (0, 0, false)
                 }
-            }
+                Err(refusal) => (number_of(refusal), at, true),
+            },
             (Ok(Some(Record::Event(event))), Some(chassis)) => match apply(chassis, event) {
                 Ok(value) => (0, u64::from(value), false),
                 Err(refusal) => (refusal, 0, false),

@@ -5,7 +5,7 @@ use super::draws::{card_or_home, one_of};
 use super::fabricate::cell;
 use crate::chassis::{card_bit, Chassis, Request, CELL_AT_START, HOME, LAST_RETRY};
 use crate::random::Random;
-use crate::table::{self, GETS, GETX, II_A, IM_AD, IS_AD, M, MI_A, SM_AD};
+use crate::table::{self, GETS, GETX, II_A, IM_AD, IS_AD, M, MI_A, O, OI_A, OM_AD, SM_AD};
 
 /// Percent of each thing that is made to fit. One that does not is what is
 /// wrong alone.
@@ -35,14 +35,26 @@ fn free_block(_: &mut Random, chassis: &mut Chassis, head: &Request) {
 
 /// The asker is in a state that the head comes from.
 fn move_asker(random: &mut Random, chassis: &mut Chassis, head: &Request) {
-    let states = match head.kind {
-        GETS => [IS_AD, IS_AD],
-        GETX => [IM_AD, SM_AD],
-        _ => [MI_A, II_A],
+    let states: &[u8] = match head.kind {
+        GETS => &[IS_AD],
+        GETX => &[IM_AD, SM_AD, OM_AD],
+        _ => &[MI_A, II_A, OI_A],
     };
-    let state = one_of(random, states);
-    let cell = cell(random, state, chassis.last_order);
-    *chassis.cell_mut(head.card, head.block) = cell;
+    move_cell(random, chassis, (head.card, head.block), states);
+}
+
+/// A card's cell for a block is in one of the states that the edition has.
+fn move_cell(random: &mut Random, chassis: &mut Chassis, (card, block): (u8, u8), states: &[u8]) {
+    let edition = chassis.edition;
+    let fitting = || {
+        states
+            .iter()
+            .filter(|state| table::has_state(edition, **state))
+    };
+    let chosen = random.place(fitting().count());
+    if let Some(state) = fitting().nth(chosen) {
+        *chassis.cell_mut(card, block) = cell(random, *state, chassis.last_order);
+    }
 }
 
 /// The owner can give the block away, or a put stands or lapses by it.
@@ -51,11 +63,19 @@ fn place_owner(random: &mut Random, chassis: &mut Chassis, head: &Request) {
     let other = if drawn == head.card { HOME } else { drawn };
     let is_get = matches!(head.kind, GETS | GETX);
     if is_get && other != HOME {
-        let state = one_of(random, [M, MI_A]);
-        *chassis.cell_mut(other, head.block) = cell(random, state, chassis.last_order);
+        move_cell(
+            random,
+            chassis,
+            (other, head.block),
+            &[M, MI_A, O, OM_AD, OI_A],
+        );
     }
     let asker = chassis.cell(head.card, head.block).state;
-    let stays = !is_get && asker == MI_A;
+    let stays = match head.kind {
+        GETS => false,
+        GETX => asker == OM_AD,
+        _ => matches!(asker, MI_A | OI_A),
+    };
     chassis.home[usize::from(head.block)].owner = if stays { head.card } else { other };
 }
 
@@ -65,9 +85,16 @@ fn widen_mask(random: &mut Random, chassis: &mut Chassis, head: &Request) {
         return;
     }
     let needed = chassis.holders(head.block);
-    let owner = chassis.home[usize::from(head.block)].owner;
-    let any_card = random.byte_below(chassis.cards);
-    let one = card_bit(one_of(random, [owner, any_card]));
+    let owner = chassis.owner(head.block);
+    let sharer = pick_sharer(random, chassis, head.block).unwrap_or(owner);
+    let one = card_bit(one_of(random, [owner, sharer]));
     let masks = [head.mask | needed, needed & !one, head.mask];
     chassis.line.places[0].mask = one_of(random, masks);
+}
+
+/// One of a block's sharers beside its owner, if there is one.
+fn pick_sharer(random: &mut Random, chassis: &Chassis, block: u8) -> Option<u8> {
+    let sharers = chassis.home[usize::from(block)].sharers & !card_bit(chassis.owner(block));
+    let listed = || (0..chassis.cards).filter(|card| sharers & card_bit(*card) != 0);
+    listed().nth(random.place(listed().count()))
 }

@@ -2,6 +2,7 @@
 
 use super::draws::{one_of, value};
 use crate::chassis::Mask;
+use crate::edition::EDITIONS;
 use crate::fields::{record_of, Fields, BLOCK, CARD, FIELDS, KIND, MASK, POSITION, STORED, TAG};
 use crate::journal::{append, value_length, HEAD_LENGTH, MAX_RECORD_LENGTH, TAGS};
 use crate::random::Random;
@@ -9,6 +10,9 @@ use crate::replay::JOURNAL_LIMIT;
 
 /// Percent of tags that may be of no record.
 const ANY_TAG: u32 = 15;
+
+/// Percent of kinds that an opening takes for an edition.
+const AN_EDITION: u32 = 70;
 
 /// Most buffers have no more bytes than this, so that a record often just fits.
 const SHORT: usize = 3 * MAX_RECORD_LENGTH;
@@ -53,7 +57,7 @@ pub fn draw_writing(random: &mut Random) -> Writing {
 pub fn draw_reading(random: &mut Random) -> Reading {
     let mut journal = buffer(random);
     let (at, fields) = (journal.len(), fields(random));
-    if let Some(record) = record_of(&fields) {
+    if let Ok(record) = record_of(&fields) {
         append(&mut journal, record);
     }
     for _ in 0..random.below(3) {
@@ -76,6 +80,9 @@ fn fields(random: &mut Random) -> Fields {
     let mut fields = [0; FIELDS];
     for at in [CARD, BLOCK, KIND, POSITION] {
         fields[at] = random.byte().into();
+    }
+    if random.percent(AN_EDITION) {
+        fields[KIND] = one_of(random, EDITIONS).number().into();
     }
     fields[MASK] = (random.bits() as Mask).into();
     fields[STORED] = value(random).into();

@@ -2,13 +2,14 @@
 //! of them are such as no journal reaches.
 
 use super::aim::aim;
-use super::draws::{card_or_home, count, given_number, last_number, mask, size, value};
+use super::draws::{card_or_home, count, given_number, last_number, mask, one_of, size, value};
 use crate::chassis::{
     Cell, Chassis, HomeBlock, Message, OrderNumber, Request, Retry, LAST_RETRY, LINE_ROOM,
     MAX_BLOCKS, MAX_CARDS, POOL_ROOM,
 };
+use crate::edition::EDITIONS;
 use crate::random::Random;
-use crate::table::{self, GETS, I, PUTX, STATES};
+use crate::table::{self, GETS, I, PUTX};
 
 /// Percent of blocks whose cards may await data. Where all may, a block with
 /// many cards is nearly always held.
@@ -25,6 +26,7 @@ const AIMED: u32 = 75;
 /// A well formed chassis. Every one that row 15 allows may be drawn.
 pub fn fabricate(random: &mut Random) -> Chassis {
     let mut chassis = Chassis {
+        edition: one_of(random, EDITIONS),
         cards: size(random, MAX_CARDS),
         blocks: size(random, MAX_BLOCKS),
         last_order: last_number(random),
@@ -51,10 +53,12 @@ fn fill_block(random: &mut Random, chassis: &mut Chassis, block: u8) {
         owner: card_or_home(random, chassis.cards),
         sharers: mask(random, chassis.cards),
     };
+    let states = (0u8..).take_while(|state| table::has_state(chassis.edition, *state));
+    let states = states.count() as u8;
     let last = chassis.last_order;
     let may_await = last != OrderNumber(0) && random.percent(MAY_AWAIT);
     for card in 0..chassis.cards {
-        let state = random.byte_below(STATES as u8);
+        let state = random.byte_below(states);
         let fits = may_await || !table::awaits_data(state);
         *chassis.cell_mut(card, block) = cell(random, if fits { state } else { I }, last);
     }

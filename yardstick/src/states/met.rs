@@ -1,19 +1,23 @@
-//! How often each answer was met on states and buffers that are made up, and
-//! each clause of row 15 as the only thing wrong.
+//! How often each answer was met on states and buffers that are made up, each
+//! clause of row 15 as the only thing wrong, and what is done with owned copies.
 
 use std::collections::BTreeMap;
 use std::fmt;
-use std::iter;
 use std::slice;
 
 use crate::amounts::Grouped;
 use crate::cases::{cases_of, Case, Reach, Subject};
 use crate::engine::Answer;
 use crate::formed::clause_names;
-use crate::handed::TOO_LARGE;
+use crate::handed::{NO_EDITION, TOO_LARGE};
+use crate::owned::{reachable_owned, Owned};
 
 /// Each case and each clause is to be met once in so many states at least.
 const ONE_IN: u64 = 1_000;
+
+/// Each thing done with owned copies is to be met once in so many: a state in
+/// which one is done needs an edition, an owner and a head that fit together.
+const ONE_OWNED_IN: u64 = 20_000;
 
 /// Every answer that a state or a buffer can have, from the paper's table of
 /// refusals, its order of tests and its outcomes. The last retry has every
@@ -37,7 +41,7 @@ pub(crate) const ON_ANY_STATE: [Reach; 18] = [
     Reach { subject: Subject::Rejoin, outcomes: &[0], refusals: &[15, 1] },
     Reach { subject: Subject::Reading, outcomes: &[0], refusals: &[20, 21, 22, 23] },
     Reach { subject: Subject::ReadingTheEnd, outcomes: &[0], refusals: &[] },
-    Reach { subject: Subject::Writing, outcomes: &[0], refusals: &[21, 24] },
+    Reach { subject: Subject::Writing, outcomes: &[0], refusals: &[21, 23, 24] },
 ];
 
 /// What was met.
@@ -46,6 +50,8 @@ pub struct Met {
     states: u64,
     well_formed: u64,
     by_case: BTreeMap<Case, u64>,
+    /// How often each thing was done with owned copies.
+    by_owned: BTreeMap<Owned, u64>,
     /// How often each thing was all that was wrong with a state.
     by_wrong: BTreeMap<&'static str, u64>,
 }
@@ -72,6 +78,16 @@ impl Met {
         *self.by_case.entry(case).or_insert(0) += 1;
     }
 
+    /// Counts what is done with owned copies.
+    pub fn add_owned(&mut self, owned: Owned) {
+        *self.by_owned.entry(owned).or_insert(0) += 1;
+    }
+
+    /// How often a thing was done with owned copies.
+    pub fn of_owned(&self, owned: Owned) -> u64 {
+        self.by_owned.get(&owned).copied().unwrap_or(0)
+    }
+
     /// How often a case was met.
     pub fn of(&self, case: Case) -> u64 {
         self.by_case.get(&case).copied().unwrap_or(0)
@@ -82,17 +98,21 @@ impl Met {
         self.by_wrong.get(name).copied().unwrap_or(0)
     }
 
-    /// What is wrong: the cases and the clauses that were met too seldom, and
-    /// the cases that the paper does not have. Nothing wrong gives no text.
+    /// What is wrong: the cases, the clauses and the things done with owned
+    /// copies that were met too seldom, and the cases that the paper does not
+    /// have. Nothing wrong gives no text.
     pub fn complaint(&self) -> Option<String> {
         let due = self.states / ONE_IN;
         let cases = cases_of(&ON_ANY_STATE).map(|case| (case.to_string(), self.of(case)));
         let wrong = wrong_names().map(|name| (format!("row 15, {name}"), self.wrong_alone(name)));
-        let seldom = cases.chain(wrong).filter(|(_, met)| *met < due);
+        let owned = reachable_owned().map(|owned| (owned.to_string(), self.of_owned(owned)));
+        let all = cases.chain(wrong).map(|(what, met)| (what, met, due));
+        let all = all.chain(owned.map(|(what, met)| (what, met, self.states / ONE_OWNED_IN)));
+        let seldom = all.filter(|(_, met, due)| met < due);
         let is_known = |case: &Case| cases_of(&ON_ANY_STATE).any(|known| known == *case);
         let unknown = self.by_case.keys().filter(|case| !is_known(case));
         let complaints: Vec<String> = seldom
-            .map(|(what, met)| format!("met {met} times, {due} are due: {what}"))
+            .map(|(what, met, due)| format!("met {met} times, {due} are due: {what}"))
             .chain(unknown.map(|case| format!("not to be met: {case}")))
             .collect();
         (!complaints.is_empty()).then(|| complaints.join("\n"))
@@ -110,12 +130,13 @@ impl Met {
 
 /// The names of what can be wrong with words.
 pub fn wrong_names() -> impl Iterator<Item = &'static str> {
-    iter::once(TOO_LARGE).chain(clause_names())
+    [TOO_LARGE, NO_EDITION].into_iter().chain(clause_names())
 }
 
 impl fmt::Display for Met {
-    /// A line for each thing that is asked, one for all refusals, and one for
-    /// each thing that can be wrong with a state.
+    /// A line for each thing that is asked, one for all refusals, one for each
+    /// thing that can be wrong with a state, and one for each that is done with
+    /// owned copies.
     fn fmt(&self, out: &mut fmt::Formatter<'_>) -> fmt::Result {
         for reach in &ON_ANY_STATE {
             let cases = cases_of(slice::from_ref(reach));
@@ -130,6 +151,10 @@ impl fmt::Display for Met {
         for name in wrong_names() {
             let alone = grouped(self.wrong_alone(name));
             writeln!(out, "nothing wrong but: {name:<24}{alone:>12}")?;
+        }
+        for owned in reachable_owned() {
+            let met = grouped(self.of_owned(owned));
+            writeln!(out, "{:<43}{met:>12}", owned.to_string())?;
         }
         Ok(())
     }

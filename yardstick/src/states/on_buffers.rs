@@ -6,7 +6,7 @@ use super::met::Met;
 use super::{same, same_items};
 use crate::cases::Subject;
 use crate::engine::{Engine, Safe};
-use crate::fields::{record_of, Fields, TAG};
+use crate::fields::{record_of, Fields, KIND, TAG};
 use crate::journal::MAX_RECORD_LENGTH;
 use crate::random::Random;
 
@@ -41,8 +41,8 @@ pub(super) fn meet_at_writing(
 /// What is written, for a message.
 fn written(fields: &Fields) -> String {
     match record_of(fields) {
-        Some(record) => record.to_string(),
-        None => format!("the tag {:02x}", fields[TAG]),
+        Ok(record) => record.to_string(),
+        Err(_) => format!("the tag {:02x} and kind {:02x}", fields[TAG], fields[KIND]),
     }
 }
 

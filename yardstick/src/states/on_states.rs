@@ -3,20 +3,20 @@
 use super::met::Met;
 use super::same;
 use super::spoil::{draw_state, Form, State};
-use super::tried::tried;
+use super::tried::{tried, Tried};
 use crate::cases::Subject;
 use crate::chassis::Chassis;
 use crate::engine::{Answer, Engine, Safe};
 use crate::events::Event;
 use crate::handed::wrong_with;
-use crate::journal::Record;
 use crate::layout::same_words;
 use crate::looks::{Look, Seen};
+use crate::owned::owned;
 use crate::random::Random;
 use crate::words::WORDS;
 
 /// What stands in the numbers before a look.
-const KEPT: Seen = [u64::MAX, 1, 2, 3, 4];
+const KEPT: Seen = [u64::MAX, 1, 2, 3, 4, 5];
 
 /// A Start and each event, and looks, all on the same words.
 pub(super) fn meet_on_state(
@@ -26,10 +26,15 @@ pub(super) fn meet_on_state(
 ) -> Result<(), String> {
     let state = draw_state(random);
     let handed_in = Chassis::handed_in(&state.words).ok();
-    for record in tried(random, &state.chassis) {
-        let answer = same_answer_and_words(proved, &state.words, record)
-            .map_err(|what| format!("{}, {record}: {what}", described(&state)))?;
-        met.add_answer(subject(record, handed_in.as_ref()), answer);
+    for tried in tried(random, &state.chassis) {
+        let answer = same_answer_and_words(proved, &state.words, tried)
+            .map_err(|what| format!("{}, {tried}: {what}", described(&state)))?;
+        met.add_answer(subject(tried, handed_in.as_ref()), answer);
+        if let (Tried::Event(event), Some(chassis)) = (tried, &handed_in) {
+            let answer = chassis.clone().apply(event);
+            let all = owned(chassis, event, answer);
+            all.into_iter().for_each(|owned| met.add_owned(owned));
+        }
     }
     for look in state.chassis.looks(random) {
         same_look(proved, &state.words, look)
@@ -58,10 +63,10 @@ fn wrong_alone(state: &State) -> Option<&'static str> {
 fn same_answer_and_words(
     proved: &dyn Engine,
     words: &[u64; WORDS],
-    record: Record,
+    tried: Tried,
 ) -> Result<Answer, String> {
     let (mut one, mut other) = (*words, *words);
-    let (answer, due) = (proved.run(&mut one, record), Safe.run(&mut other, record));
+    let (answer, due) = (tried.run(proved, &mut one), tried.run(&Safe, &mut other));
     same("the answer", answer, due)?;
     same_words(&one, &other)?;
     Ok(due)
@@ -88,11 +93,11 @@ fn described(state: &State) -> String {
 }
 
 /// What a Start or an event is about. No head is known in an ill formed state.
-fn subject(record: Record, handed_in: Option<&Chassis>) -> Subject {
-    match (record, handed_in) {
-        (Record::Opening { .. }, _) => Subject::Start,
-        (Record::Event(Event::Order), None) => Subject::OrderOfIllFormed,
-        (Record::Event(event), None) => Subject::of(&event, &Chassis::unused()),
-        (Record::Event(event), Some(chassis)) => Subject::of(&event, chassis),
+fn subject(tried: Tried, handed_in: Option<&Chassis>) -> Subject {
+    match (tried, handed_in) {
+        (Tried::Start { .. }, _) => Subject::Start,
+        (Tried::Event(Event::Order), None) => Subject::OrderOfIllFormed,
+        (Tried::Event(event), None) => Subject::of(&event, &Chassis::unused()),
+        (Tried::Event(event), Some(chassis)) => Subject::of(&event, chassis),
     }
 }

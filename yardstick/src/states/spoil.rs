@@ -93,7 +93,8 @@ fn small(random: &mut Random) -> u64 {
     u64::from(random.below(1 << bits))
 }
 
-/// A word of one of the parts, most of them in use, or any at all.
+/// A word of one of the parts, most of them in use, or any at all. The first
+/// word, the edition, is a part of its own: all states depend on it.
 fn pick_word(random: &mut Random, chassis: &Chassis) -> usize {
     let card = random.place(usize::from(chassis.cards));
     let block = random.place(usize::from(chassis.blocks));
@@ -101,6 +102,7 @@ fn pick_word(random: &mut Random, chassis: &Chassis) -> usize {
     let waiting = random.place(chassis.line.count());
     let sent = random.place(chassis.pool.count());
     let parts = [
+        (0, 1),
         (0, HEADER_WORDS),
         (home_at(block), HOME_WORDS),
         (home_at(any_block), HOME_WORDS),

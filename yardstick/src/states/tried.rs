@@ -1,12 +1,16 @@
 //! What is tried on a state: a Start and one event of each kind, with
 //! arguments that mostly fit.
 
+use std::fmt;
+
 use super::draws::{mask, one_of, value};
 use crate::chassis::{Chassis, MAX_BLOCKS, MAX_CARDS};
+use crate::edition::EDITIONS;
+use crate::engine::{Answer, Engine};
 use crate::events::Event;
-use crate::journal::Record;
 use crate::random::Random;
 use crate::table::{self, GETS, GETX, PUTX};
+use crate::words::WORDS;
 
 /// Percent of asks of a kind that the cell's state allows, if it allows one.
 const ALLOWED: u32 = 60;
@@ -14,24 +18,64 @@ const ALLOWED: u32 = 60;
 /// Percent of masks of cards that a chassis may have, there or not.
 const ANY_CARDS: u32 = 20;
 
+/// What is tried. A Start has a byte for its edition, which may be no
+/// edition's.
+#[derive(Clone, Copy)]
+pub enum Tried {
+    Start { edition: u8, cards: u8, blocks: u8 },
+    Event(Event),
+}
+
+impl Tried {
+    /// Tries it by an engine.
+    pub fn run(self, engine: &dyn Engine, words: &mut [u64; WORDS]) -> Answer {
+        match self {
+            Tried::Start {
+                edition,
+                cards,
+                blocks,
+            } => engine.start(words, edition, cards, blocks),
+            Tried::Event(event) => engine.apply(words, event),
+        }
+    }
+}
+
+impl fmt::Display for Tried {
+    /// What is tried, as one line.
+    fn fmt(&self, out: &mut fmt::Formatter<'_>) -> fmt::Result {
+        match self {
+            Tried::Start {
+                edition,
+                cards,
+                blocks,
+            } => write!(
+                out,
+                "start of edition {edition}, cards {cards}, blocks {blocks}"
+            ),
+            Tried::Event(event) => write!(out, "{event}"),
+        }
+    }
+}
+
 /// A Start, then every event once.
-pub fn tried(random: &mut Random, chassis: &Chassis) -> [Record; 9] {
+pub fn tried(random: &mut Random, chassis: &Chassis) -> [Tried; 9] {
     [
-        opening(random),
-        Record::Event(load(random, chassis)),
-        Record::Event(store(random, chassis)),
-        Record::Event(drop_copy(random, chassis)),
-        Record::Event(ask(random, chassis)),
-        Record::Event(Event::Order),
-        Record::Event(deliver(random, chassis)),
-        Record::Event(copy(random, chassis)),
-        Record::Event(rejoin(random, chassis)),
+        start(random),
+        Tried::Event(load(random, chassis)),
+        Tried::Event(store(random, chassis)),
+        Tried::Event(drop_copy(random, chassis)),
+        Tried::Event(ask(random, chassis)),
+        Tried::Event(Event::Order),
+        Tried::Event(deliver(random, chassis)),
+        Tried::Event(copy(random, chassis)),
+        Tried::Event(rejoin(random, chassis)),
     ]
 }
 
-/// A Start, of too many or none now and then.
-fn opening(random: &mut Random) -> Record {
-    Record::Opening {
+/// A Start, of too many, of none or of no edition now and then.
+fn start(random: &mut Random) -> Tried {
+    Tried::Start {
+        edition: byte(random, EDITIONS.len() as u8),
         cards: byte(random, MAX_CARDS as u8 + 1),
         blocks: byte(random, MAX_BLOCKS as u8 + 1),
     }

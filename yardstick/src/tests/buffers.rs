@@ -1,8 +1,9 @@
 //! The buffers, places and records that are made up: every kind is drawn.
 
-use crate::fields::{fields_of, record_of, FIELDS, TAG};
-use crate::journal::{value_length, HEAD_LENGTH, TAGS};
+use crate::fields::{fields_of, record_of, Fields, FIELDS, KIND, TAG};
+use crate::journal::{value_length, HEAD_LENGTH, TAGS, TAG_OPENING};
 use crate::random::Random;
+use crate::refusal::Refusal;
 use crate::replay::JOURNAL_LIMIT;
 use crate::states::buffers::{draw_reading, draw_writing, Writing};
 
@@ -80,16 +81,29 @@ fn every_kind_of_reading_is_drawn() {
     assert!(all.iter().all(|drawn| drawn.fields != [0; FIELDS]));
 }
 
-/// The numbers of a record give it again, and a tag of none gives none.
+/// What numbers are refused with: 21 if no record has the tag, then 23 if an
+/// opening's kind is no edition's number.
+fn refusal_due(fields: &Fields) -> Option<Refusal> {
+    let tag = fields[TAG] as u8;
+    if !TAGS.contains(&tag) {
+        Some(Refusal::UnknownTag)
+    } else if tag == TAG_OPENING && fields[KIND] > 1 {
+        Some(Refusal::WrongOpening)
+    } else {
+        None
+    }
+}
+
+/// The numbers of a record give it again, and those of none are refused.
 #[test]
 fn numbers_and_records_undo_each_other() {
     for seed in 0..SEEDS {
         let fields = draw_writing(&mut Random::new(seed)).fields;
         let record = record_of(&fields);
-        assert_eq!(record.is_some(), TAGS.contains(&(fields[TAG] as u8)));
-        if let Some(record) = record {
+        assert_eq!(record.err(), refusal_due(&fields));
+        if let Ok(record) = record {
             let own = fields_of(record);
-            assert_eq!(record_of(&own), Some(record));
+            assert_eq!(record_of(&own), Ok(record));
             // What it has is as it was, and what it has not is 0.
             assert!(own
                 .iter()

@@ -14,7 +14,7 @@ use crate::told::told;
 const M2: &str = "\
 0 start 2 cards 1 block                        # at byte 0
   answer 0 0: the chassis is started
-  all    cells I (0), values 0, memory 0, owners home (255), no sharers, line and pool empty, last order number 0
+  all    edition MSI (0), cells I (0), values 0, memory 0, owners home (255), no sharers, line and pool empty, last order number 0
 
 1 ask card 0 block 0 GETX mask 00000000        # at byte 9
   answer 0 0: done

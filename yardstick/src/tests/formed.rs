@@ -4,6 +4,7 @@ use std::collections::BTreeSet;
 
 use super::busy_chassis;
 use crate::chassis::{Chassis, OrderNumber, Retry, HOME};
+use crate::edition::Edition;
 use crate::formed::clause_names;
 
 /// Damage to `busy_chassis`, with the clause that sees it, and no other does.
@@ -13,14 +14,17 @@ type Planted = (&'static str, fn(&mut Chassis));
 const NOT_GIVEN: OrderNumber = OrderNumber(4);
 
 #[rustfmt::skip]
-const RANGES: [Planted; 20] = [
+const RANGES: [Planted; 23] = [
     ("number of cards", |chassis| chassis.cards = 0),
     ("number of cards", |chassis| chassis.cards = 9),
     ("number of blocks", |chassis| chassis.blocks = 0),
     ("number of blocks", |chassis| chassis.blocks = 33),
     ("count of the line", |chassis| chassis.line.count = 65),
     ("count of the pool", |chassis| chassis.pool.count = 65),
-    ("code of a state", |chassis| chassis.cells[0][1].state = 11),
+    ("code of a state", |chassis| chassis.cells[0][1].state = 14),
+    ("state of MOSI in MSI", |chassis| chassis.cells[0][0].state = 11),
+    ("state of MOSI in MSI", |chassis| chassis.cells[0][0].state = 12),
+    ("state of MOSI in MSI", |chassis| chassis.cells[0][0].state = 13),
     ("code of a kind", |chassis| chassis.line.places[0].kind = 0),
     ("code of a kind", |chassis| chassis.line.places[0].kind = 4),
     ("card that owns", |chassis| chassis.home[0].owner = 3),
@@ -74,6 +78,18 @@ fn planted_damage_is_seen() {
         planted.insert(*clause);
     }
     assert_eq!(planted, clause_names().collect());
+}
+
+/// States 11 to 13 are well formed in MOSI, and no state above them is.
+#[test]
+fn the_states_of_mosi_are_well_formed_in_mosi() {
+    for (state, is_well_formed) in [(11, true), (12, true), (13, true), (14, false)] {
+        let mut chassis = busy_chassis();
+        chassis.cells[0][0].state = state;
+        assert!(!chassis.well_formed(), "{state}");
+        chassis.edition = Edition::Mosi;
+        assert_eq!(chassis.well_formed(), is_well_formed, "{state}");
+    }
 }
 
 /// The number that card 2 awaits, and its message has, is above it.

@@ -2,8 +2,9 @@
 
 use super::{busy_chassis, each_journal};
 use crate::chassis::Chassis;
+use crate::edition::Edition;
 use crate::engine::{Engine, Safe};
-use crate::handed::{wrong_with, TOO_LARGE};
+use crate::handed::{wrong_with, NO_EDITION, TOO_LARGE};
 use crate::layout::word_name;
 use crate::random::Random;
 use crate::refusal::Refusal;
@@ -17,7 +18,7 @@ const LARGE: [u64; 3] = [1 << 32, u64::MAX - 1, u64::MAX];
 
 fn reads_back(chassis: &Chassis) {
     let words = chassis.words();
-    assert_eq!(Chassis::of_words(&words).as_ref(), Some(chassis));
+    assert_eq!(Chassis::of_words(&words).as_ref(), Ok(chassis));
     assert_eq!(Chassis::handed_in(&words).as_ref(), Ok(chassis));
 }
 
@@ -31,6 +32,22 @@ fn reading_back_undoes_laying_out() {
         while run.see().is_some() {}
         run.chassis().into_iter().for_each(reads_back);
     });
+}
+
+/// The edition's word is 0 or 1; all else of the words is the same in both.
+#[test]
+fn a_word_that_is_no_editions_is_15() {
+    let mut words = busy_chassis().words();
+    for (edition, word) in [(Edition::Msi, 0), (Edition::Mosi, 1)] {
+        words[0] = word;
+        let handed_in = Chassis::handed_in(&words);
+        assert_eq!(handed_in.map(|chassis| chassis.edition()), Ok(edition));
+    }
+    for word in [2, 3, 255, 256, 257, 1 << 32, u64::MAX] {
+        words[0] = word;
+        assert_eq!(Chassis::handed_in(&words), Err(Refusal::IllFormed));
+        assert_eq!(wrong_with(&words), [NO_EDITION]);
+    }
 }
 
 /// But for the last order number, which any number may be.
@@ -74,6 +91,8 @@ fn words_of_no_chassis_are_15_and_are_kept() {
         assert_eq!(Safe.run(words, order()), (15, 0));
         assert_eq!(*words, before);
     }
+    assert_eq!(wrong_with(&noise), [NO_EDITION]);
+    noise[0] = 0;
     assert_eq!(wrong_with(&noise), [TOO_LARGE]);
     assert_eq!(wrong_with(&none), ["number of cards", "number of blocks"]);
 }

@@ -1,12 +1,22 @@
 //! What loads may return, from the events and their answers alone: the last
-//! earlier store to the block that is not struck, or 0. And one writer at most.
+//! earlier store to the block that is not struck, or 0. And one writer at most,
+//! nothing impossible, and nothing ill formed: in both editions.
 
 use super::started;
 use crate::characters::CHARACTERS;
 use crate::chassis::{Chassis, MAX_BLOCKS};
+use crate::edition::{Edition, EDITIONS};
 use crate::events::Event;
 use crate::generate::{generate, generate_of};
-use crate::table;
+use crate::random::Random;
+use crate::refusal::Refusal;
+use crate::table::{self, GETS, PUTX};
+
+/// The sizes of the chassis of random runs, and how long and how many these are.
+const CARDS: u8 = 3;
+const BLOCKS: u8 = 2;
+const EVENTS: usize = 3_000;
+const RUNS: u64 = 60;
 
 /// An accepted store.
 struct Store {
@@ -76,24 +86,103 @@ fn has_single_writers(chassis: &Chassis) -> bool {
     })
 }
 
+/// A run from its start, with what its loads may return.
+struct Checked {
+    chassis: Chassis,
+    history: History,
+}
+
+impl Checked {
+    fn from(chassis: Chassis) -> Checked {
+        let history = History::new();
+        Checked { chassis, history }
+    }
+
+    /// Runs an event and checks all that it is to keep.
+    fn run(&mut self, event: Event) {
+        let before = self.chassis.clone();
+        let ordered = before.head().map(|head| head.block);
+        let answer = self.chassis.apply(event);
+        match answer {
+            Ok(value) => self.history.accept(event, value, ordered),
+            Err(_) => assert_eq!(self.chassis, before, "{event}"),
+        }
+        assert_ne!(answer, Err(Refusal::Impossible), "{event}");
+        let numbers_given = u64::from(event == Event::Order && answer.is_ok());
+        let last = before.last_order.0 + numbers_given;
+        assert_eq!(self.chassis.last_order.0, last);
+        assert!(self.chassis.well_formed(), "{event}");
+        assert!(has_single_writers(&self.chassis), "{event}");
+    }
+}
+
 /// Runs a journal and checks every step of it.
 fn check(journal: &[u8]) {
-    let Some((mut chassis, events)) = started(journal) else {
+    let Some((chassis, events)) = started(journal) else {
         return;
     };
-    let mut history = History::new();
+    let mut checked = Checked::from(chassis);
     for event in events {
-        let before = chassis.clone();
-        let ordered = before.head().map(|head| head.block);
-        let answer = chassis.apply(event);
-        match answer {
-            Ok(value) => history.accept(event, value, ordered),
-            Err(_) => assert_eq!(chassis, before, "{event}"),
+        checked.run(event);
+    }
+}
+
+/// Any event at all on a small chassis, each argument as likely as another.
+fn any_event(random: &mut Random) -> Event {
+    let [card, block] = [CARDS, BLOCKS].map(|most| random.byte_below(most));
+    let position = random.byte_below(3);
+    match random.below(12) {
+        0 | 1 => Event::Load { card, block },
+        2 => Event::Store {
+            card,
+            block,
+            value: random.word(),
+        },
+        3..=5 => Event::Ask {
+            card,
+            block,
+            kind: random.byte_between(GETS, PUTX),
+            mask: random.byte_below(1 << CARDS),
+        },
+        6..=8 => Event::Order,
+        9 | 10 => Event::Deliver { position },
+        _ => match random.below(8) {
+            0 => Event::Rejoin { card },
+            1 | 2 => Event::Drop { card, block },
+            _ => Event::Copy { position },
+        },
+    }
+}
+
+/// How often a cell was in each state after each event of random runs.
+fn states_of_random_runs(edition: Edition) -> [u64; table::STATES] {
+    let mut met = [0; table::STATES];
+    for seed in 0..RUNS {
+        let mut random = Random::new(seed);
+        let started = Chassis::start(edition, CARDS, BLOCKS);
+        let mut checked = Checked::from(started.expect("the sizes fit"));
+        for _ in 0..EVENTS {
+            checked.run(any_event(&mut random));
+            for block in 0..BLOCKS {
+                for cell in checked.chassis.cells_of(block) {
+                    met[usize::from(cell.state)] += 1;
+                }
+            }
         }
-        let numbers_given = u64::from(event == Event::Order && answer.is_ok());
-        assert_eq!(chassis.last_order.0, before.last_order.0 + numbers_given);
-        assert!(chassis.well_formed(), "{event}");
-        assert!(has_single_writers(&chassis), "{event}");
+    }
+    met
+}
+
+/// Events drawn without a look at the state: no choice of the generator's
+/// hides a run. MSI has every state but those of owned copies.
+#[test]
+fn random_runs_keep_the_rules() {
+    for edition in EDITIONS {
+        let met = states_of_random_runs(edition);
+        for (state, met) in (0u8..).zip(met) {
+            let is_due = table::has_state(edition, state);
+            assert_eq!(met > RUNS, is_due, "state {state}: {met}");
+        }
     }
 }
 
@@ -107,6 +196,10 @@ fn generated_runs_keep_the_rules() {
 #[test]
 fn every_character_keeps_the_rules() {
     for (character, _) in CHARACTERS {
-        check(&generate_of(character, 7, 2_000));
+        for edition in EDITIONS {
+            for seed in 7..10 {
+                check(&generate_of(edition, character, seed, 2_000));
+            }
+        }
     }
 }

@@ -1,10 +1,11 @@
 //! Reading and writing one record.
 
 use super::records;
+use crate::edition::{Edition, EDITIONS};
 use crate::generate::generate;
 use crate::journal::{append, read_record, write_record, Reader, Record};
 use crate::refusal::Refusal;
-use crate::script::{journal_of, order, start, store};
+use crate::script::{journal_of, order, start, start_of, store};
 
 /// What reading the first record of these bytes refuses with.
 fn refused(bytes: &[u8]) -> Option<Refusal> {
@@ -46,10 +47,29 @@ fn value_cut_short_is_20() {
 
 #[test]
 fn wrong_opening_bytes_are_23() {
-    for place in 3..7 {
-        let mut opening = journal_of([start(1, 1)]);
-        opening[place] ^= 1;
-        assert_eq!(refused(&opening), Some(Refusal::WrongOpening));
+    for edition in EDITIONS {
+        for place in 3..7 {
+            let mut opening = journal_of([start_of(edition, 1, 1)]);
+            opening[place] ^= 1;
+            assert_eq!(refused(&opening), Some(Refusal::WrongOpening));
+        }
+    }
+    for bytes in [b"moh2", b"coh2", b"MOH1", b"mosi", b"1hom", b"\0\0\0\x01"] {
+        let opening = [&[1, 0, 6], &bytes[..], &[2, 1]].concat();
+        assert_eq!(refused(&opening), Some(Refusal::WrongOpening), "{bytes:?}");
+    }
+}
+
+/// The bytes of an opening of each edition, by the paper.
+#[test]
+fn the_opening_says_the_edition() {
+    for (edition, bytes) in [
+        (Edition::Msi, b"\x01\x00\x06coh1\x02\x01"),
+        (Edition::Mosi, b"\x01\x00\x06moh1\x02\x01"),
+    ] {
+        let opening = start_of(edition, 2, 1);
+        assert_eq!(journal_of([opening]), bytes);
+        assert_eq!(read_record(bytes, 0), Ok(Some((opening, 9))));
     }
 }
 
@@ -81,7 +101,12 @@ fn reader_and_writer_undo_each_other() {
 
 #[test]
 fn writing_touches_its_own_bytes_only_or_refuses_with_24() {
-    for record in [start(2, 3), store(4, 5, 6), order()] {
+    for record in [
+        start(2, 3),
+        start_of(Edition::Mosi, 2, 3),
+        store(4, 5, 6),
+        order(),
+    ] {
         let bytes = journal_of([record]);
         for length in 0..16 {
             for place in 0..20 {

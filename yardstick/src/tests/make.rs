@@ -1,12 +1,15 @@
 //! From the readable form to the journal, and to and fro.
 
+use crate::edition::Edition;
 use crate::files::LONGEST_JOURNAL;
 use crate::generate::generate;
 use crate::make::make;
 use crate::picked::picked_journals;
 use crate::random::Random;
 use crate::replay::JOURNAL_LIMIT;
-use crate::script::{ask, copy, deliver, drop_copy, journal_of, load, order, rejoin, start, store};
+use crate::script::{
+    ask, copy, deliver, drop_copy, journal_of, load, order, rejoin, start, start_of, store,
+};
 use crate::show::show;
 
 /// The words that the readable form has, and some that it has not.
@@ -101,8 +104,23 @@ fn each_line_is_a_record() {
     );
 }
 
+/// The edition stands before the sizes; MSI need not be named.
+#[test]
+fn a_start_names_its_edition() {
+    let of = |edition| Ok(journal_of([start_of(edition, 2, 1)]));
+    assert_eq!(make(b"start MOSI 2 cards 1 block"), of(Edition::Mosi));
+    assert_eq!(make(b"start MSI 2 cards 1 block"), of(Edition::Msi));
+    assert_eq!(make(b"start 2 cards 1 block"), of(Edition::Msi));
+    let shown = |edition| show(&journal_of([start_of(edition, 2, 1)]), 1);
+    assert!(shown(Edition::Mosi).starts_with("start MOSI 2 cards 1 block "));
+    assert!(shown(Edition::Msi).starts_with("start 2 cards 1 block "));
+}
+
 #[rustfmt::skip]
-const MISTAKES: [(&str, &str); 23] = [
+const MISTAKES: [(&str, &str); 26] = [
+    ("start MESI 2 cards 1 block", "1:7: MSI, MOSI or a number of cards from 0 to 255 is expected, not `MESI`"),
+    ("start", "1:6: MSI, MOSI or a number of cards from 0 to 255 is expected, not the line's end"),
+    ("start MOSI cards", "1:12: a number from 0 to 255 is expected, not `cards`"),
     ("\n\nload card foo block 0", "3:11: a number from 0 to 255 is expected, not `foo`"),
     ("order\ndeliver 256", "2:9: a number from 0 to 255 is expected, not `256`"),
     ("deliver -1", "1:9: a number from 0 to 255 is expected, not `-1`"),
@@ -229,7 +247,7 @@ fn generated_journals_go_to_and_fro() {
 #[test]
 fn picked_journals_go_to_and_fro() {
     for picked in picked_journals() {
-        goes_to_and_fro(&picked.journal, picked.name);
+        goes_to_and_fro(&picked.journal, &picked.name);
     }
 }
 

@@ -1,11 +1,12 @@
-//! M1 to M10.
+//! M1 to M16.
 
 use crate::chassis::{Chassis, HomeBlock, Message, OrderNumber, Retry, HOME};
+use crate::edition::EDITIONS;
 use crate::journal::Record;
 use crate::marked::{marked_sequences, Marked, Step};
 use crate::refusal::Refusal;
 use crate::replay::replay;
-use crate::table::{I, IM_AD, S};
+use crate::table::{I, IM_AD, O, OI_A, OM_AD, S, SM_D};
 
 /// The output that the paper gives for M2, whole.
 const M2_OUTPUT: &str = "0 0 0\n1 0 0\n2 0 1\n3 0 1\n4 0 0\n5 3 0\n6 0 7\n";
@@ -33,7 +34,11 @@ fn run(steps: &[Step]) -> Chassis {
     let mut chassis = Chassis::unused();
     for &(record, refusal, value) in steps {
         let answer = match record {
-            Record::Opening { cards, blocks } => Chassis::start(cards, blocks).map(|started| {
+            Record::Opening {
+                edition,
+                cards,
+                blocks,
+            } => Chassis::start(edition, cards, blocks).map(|started| {
                 chassis = started;
                 0
             }),
@@ -52,12 +57,15 @@ fn run_to(name: &str, last: usize) -> Chassis {
 
 #[test]
 fn m1() {
-    for (cards, blocks) in [(0, 1), (9, 1), (8, 33), (1, 0)] {
-        assert_eq!(Chassis::start(cards, blocks), Err(Refusal::SizeOutOfRange));
+    for edition in EDITIONS {
+        for (cards, blocks) in [(0, 1), (9, 1), (8, 33), (1, 0)] {
+            let started = Chassis::start(edition, cards, blocks);
+            assert_eq!(started, Err(Refusal::SizeOutOfRange));
+        }
+        let largest = Chassis::start(edition, 8, 32).expect("accepted");
+        assert_eq!((largest.cards(), largest.blocks()), (8, 32));
+        assert!(largest.well_formed());
     }
-    let largest = Chassis::start(8, 32).expect("accepted");
-    assert_eq!((largest.cards(), largest.blocks()), (8, 32));
-    assert!(largest.well_formed());
     assert!(!Chassis::unused().well_formed());
 }
 
@@ -109,7 +117,65 @@ fn m9() {
     assert_eq!(chassis.cell(1, 0).state, IM_AD);
 }
 
-/// M2 to M10 answer as marked, engine and text alike.
+#[test]
+fn m11() {
+    let chassis = run_to("m11", 6);
+    assert_eq!(chassis.cell(0, 0).state, O);
+    let kept = HomeBlock {
+        memory: 7,
+        owner: 0,
+        sharers: 0b10,
+    };
+    assert_eq!(chassis.home[0], kept);
+    assert_eq!(chassis.pool.items().last().map(|sent| sent.sender), Some(0));
+}
+
+#[test]
+fn m12() {
+    let chassis = run_to("m12", 12);
+    let cell = chassis.cell(0, 0);
+    assert_eq!((cell.state, cell.value), (SM_D, 7));
+    let home = chassis.home[0];
+    assert_eq!((home.owner, home.sharers), (0, 0));
+    let sent = chassis.pool.items().last().expect("a message");
+    assert_eq!((sent.sender, sent.value), (HOME, 7));
+}
+
+#[test]
+fn m13() {
+    assert_eq!(run_to("m13", 9).cell(0, 0).state, OM_AD);
+    let chassis = run_to("m13", 11);
+    assert_eq!(chassis.cell(0, 0).state, IM_AD);
+    assert_eq!(chassis.home[0].owner, 1);
+}
+
+#[test]
+fn m14() {
+    assert_eq!(run_to("m14", 8).cell(0, 0).state, OI_A);
+    let given_back = HomeBlock {
+        memory: 7,
+        owner: HOME,
+        sharers: 0b10,
+    };
+    assert_eq!(run_to("m14", 10).home[0], given_back);
+    let head = run_to("m14", 14).head().expect("the GETX waits");
+    assert_eq!((head.retry, head.mask), (Retry(1), 0b10));
+}
+
+#[test]
+fn m15() {
+    let home = run_to("m15", 8).home[0];
+    assert_eq!((home.owner, home.sharers), (HOME, 0b10));
+}
+
+#[test]
+fn m16() {
+    let chassis = run_to("m16", 8);
+    assert_eq!(chassis.cell(0, 0).state, OI_A);
+    assert_eq!(chassis.home[0].owner, 0);
+}
+
+/// M2 to M16 answer as marked, engine and text alike.
 #[test]
 fn all_marked_sequences() {
     for marked in marked_sequences() {

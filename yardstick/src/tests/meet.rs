@@ -1,25 +1,27 @@
 //! Engines that meet on made up states and buffers: one that is right, and
 //! ones with something wrong planted, each of which is found.
 
+use crate::chassis::{Chassis, Request, HOME};
+use crate::edition::Edition;
 use crate::engine::{Answer, Engine, Safe};
 use crate::events::Event;
 use crate::fields::{Fields, KIND, TAG};
 use crate::handed::wrong_with;
-use crate::journal::Record;
-use crate::layout::pool_at;
+use crate::layout::{home_at, pool_at};
 use crate::looks::{Look, Seen};
-use crate::script::order;
 use crate::states::meet;
 use crate::states::met::{wrong_names, Met};
+use crate::table::{IS_AD, OI_A, OM_AD};
 use crate::words::WORDS;
 
 /// How many seeds are tried, and how many so that everything is met often.
 const SEEDS: u64 = 4_000;
-const ENOUGH_SEEDS: u64 = 20_000;
+const ENOUGH_SEEDS: u64 = 40_000;
 
-/// Two words of the header.
-const IN_POOL: usize = 3;
-const LAST_ORDER: usize = 4;
+/// Three words of the header.
+const EDITION: usize = 0;
+const IN_POOL: usize = 4;
+const LAST_ORDER: usize = 5;
 
 /// What a Start or an event leaves: the words and the answer.
 type Run = ([u64; WORDS], Answer);
@@ -33,8 +35,9 @@ type Read = (Fields, usize, Answer);
 /// What a look leaves: the numbers seen and the answer.
 type Looked = (Seen, Answer);
 
-/// What is wrong: it gets what was there before, and changes what is left.
-type WrongRun = fn(&[u64; WORDS], Record, &mut Run);
+/// What is wrong: it gets what was there before, and changes what is left. A
+/// Start is no event.
+type WrongRun = fn(&[u64; WORDS], Option<Event>, &mut Run);
 type WrongWriting = fn(usize, &mut Written);
 type WrongReading = fn(&Fields, usize, &mut Read);
 type WrongLook = fn(&Seen, Look, &mut Looked);
@@ -58,23 +61,30 @@ const RIGHT: Wrong = Wrong {
 
 impl Wrong {
     /// What is left, with the wrong thing done.
-    fn after(&self, words: &mut [u64; WORDS], record: Record) -> Answer {
+    fn after(
+        &self,
+        words: &mut [u64; WORDS],
+        event: Option<Event>,
+        run: impl Fn(&mut [u64; WORDS]) -> Answer,
+    ) -> Answer {
         let before = *words;
-        let answer = Safe.run(words, record);
+        let answer = run(words);
         let mut left = (*words, answer);
-        (self.run)(&before, record, &mut left);
+        (self.run)(&before, event, &mut left);
         *words = left.0;
         left.1
     }
 }
 
 impl Engine for Wrong {
-    fn start(&self, words: &mut [u64; WORDS], cards: u8, blocks: u8) -> Answer {
-        self.after(words, Record::Opening { cards, blocks })
+    fn start(&self, words: &mut [u64; WORDS], edition: u8, cards: u8, blocks: u8) -> Answer {
+        self.after(words, None, |words| {
+            Safe.start(words, edition, cards, blocks)
+        })
     }
 
     fn apply(&self, words: &mut [u64; WORDS], event: Event) -> Answer {
-        self.after(words, Record::Event(event))
+        self.after(words, Some(event), |words| Safe.apply(words, event))
     }
 
     fn look(&self, words: &[u64; WORDS], look: Look, seen: &mut Seen) -> Answer {
@@ -110,10 +120,15 @@ impl Engine for Wrong {
 type Planted<T> = (&'static str, T);
 
 /// Wrong at a look.
-const WRONG_LOOKS: [Planted<WrongLook>; 5] = [
+const WRONG_LOOKS: [Planted<WrongLook>; 6] = [
+    ("Counts: [0, ", |_, look, left| {
+        if look == Look::Counts && left.1 .0 == 0 {
+            left.0[0] = 0;
+        }
+    }),
     ("Counts: [", |_, look, left| {
         if look == Look::Counts && left.1 .0 == 0 {
-            left.0.swap(2, 3);
+            left.0.swap(3, 4);
         }
     }),
     ("is seen, and ", |before, _, left| left.0 = *before),
@@ -136,20 +151,28 @@ const WRONG_LOOKS: [Planted<WrongLook>; 5] = [
 ];
 
 /// Wrong at a Start or an event.
-const WRONG_RUNS: [Planted<WrongRun>; 8] = [
-    (", last order number, is ", |before, record, left| {
-        if record == order() {
+const WRONG_RUNS: [Planted<WrongRun>; 9] = [
+    (
+        ", edition, is 0 in the proved engine and 1",
+        |_, event, left| {
+            if event.is_none() {
+                left.0[EDITION] = 0;
+            }
+        },
+    ),
+    (", last order number, is ", |before, event, left| {
+        if event == Some(Event::Order) {
             left.0[LAST_ORDER] = before[LAST_ORDER];
         }
     }),
-    (", rejoin card ", |before, record, left| {
+    (", rejoin card ", |before, event, left| {
         let at = (0..WORDS).find(|at| left.0[*at] != before[*at]);
-        if let (Record::Event(Event::Rejoin { .. }), Some(at)) = (record, at) {
+        if let (Some(Event::Rejoin { .. }), Some(at)) = (event, at) {
             left.0[at] = before[at];
         }
     }),
-    (", sender of the pool's place ", |before, record, left| {
-        if let (Record::Event(Event::Deliver { .. }), (0, _)) = (record, left.1) {
+    (", sender of the pool's place ", |before, event, left| {
+        if let (Some(Event::Deliver { .. }), (0, _)) = (event, left.1) {
             let freed = pool_at(left.0[IN_POOL] as usize);
             left.0[freed] = before[freed];
         }
@@ -180,18 +203,73 @@ const WRONG_RUNS: [Planted<WrongRun>; 8] = [
             left.0 = *before;
         }
     }),
-    (
-        "a well formed state, store card ",
-        |before, record, left| {
-            if let Record::Event(Event::Store { .. }) = record {
-                left.0 = *before;
+    ("a well formed state, store card ", |before, event, left| {
+        if let Some(Event::Store { .. }) = event {
+            left.0 = *before;
+        }
+    }),
+];
+
+/// What an Order was granted or taken, if it was: the chassis before it, its
+/// head, and the state that the head's card was in.
+fn done(before: &[u64; WORDS], event: Option<Event>, left: &Run) -> Option<(Chassis, Request, u8)> {
+    let is_done = event == Some(Event::Order) && matches!(left.1, (0, 1 | 3));
+    let chassis = Chassis::of_words(before).ok().filter(|_| is_done)?;
+    let head = chassis.head()?;
+    let state = chassis.cell(head.card, head.block).state;
+    Some((chassis, head, state))
+}
+
+/// Wrong with owned copies: what a reader of the rules may get wrong.
+const WRONG_OWNED: [Planted<WrongRun>; 5] = [
+    (", sender of the pool's place ", |before, event, left| {
+        // The upgrade's data comes from home, not from its asker.
+        if let Some((chassis, head, OM_AD)) = done(before, event, left) {
+            left.0[pool_at(chassis.pool.count())] = head.card.into();
+        }
+    }),
+    (", value of the pool's place ", |before, event, left| {
+        // It is memory's, not the asker's own.
+        if let Some((chassis, head, OM_AD)) = done(before, event, left) {
+            let own = chassis.cell(head.card, head.block).value;
+            left.0[pool_at(chassis.pool.count()) + 3] = own.into();
+        }
+    }),
+    (", sharers of block ", |before, event, left| {
+        // The put of an owned copy leaves its sharers.
+        if let Some((_, head, OI_A)) = done(before, event, left) {
+            left.0[home_at(head.block.into()) + 2] = 0;
+        }
+    }),
+    (", owner of block ", |before, event, left| {
+        // An owner that is asked for a copy stays the owner.
+        if let Some((chassis, head, IS_AD)) = done(before, event, left) {
+            if chassis.edition == Edition::Mosi {
+                left.0[home_at(head.block.into()) + 1] = HOME.into();
             }
-        },
-    ),
+        }
+    }),
+    (", sharers of block ", |before, event, left| {
+        // It is not listed as a sharer for that.
+        if let Some((chassis, head, IS_AD)) = done(before, event, left) {
+            let owner = chassis.owner(head.block);
+            if chassis.edition == Edition::Mosi && owner != HOME {
+                left.0[home_at(head.block.into()) + 2] |= 1 << owner;
+            }
+        }
+    }),
 ];
 
 /// Wrong at a writing.
-const WRONG_WRITINGS: [Planted<WrongWriting>; 5] = [
+const WRONG_WRITINGS: [Planted<WrongWriting>; 6] = [
+    (
+        "is (24, 0) in the proved engine and (23, 0)",
+        |from, (buffer, _, answer)| {
+            if *answer == (23, 0) && from >= buffer.len() {
+                *answer = (24, 0);
+            }
+        },
+    ),
     (" bytes: byte ", |_, (buffer, place, answer)| {
         let behind = buffer.get_mut(*place).filter(|_| *answer == (0, 0));
         behind.into_iter().for_each(|byte| *byte ^= 1);
@@ -280,7 +358,7 @@ fn an_engine_meets_itself() {
 
 #[test]
 fn what_is_wrong_at_an_event_is_found() {
-    for (expected, run) in WRONG_RUNS {
+    for (expected, run) in WRONG_RUNS.into_iter().chain(WRONG_OWNED) {
         differs(&Wrong { run, ..RIGHT }, expected);
     }
 }
@@ -311,8 +389,8 @@ fn what_is_wrong_at_a_reading_is_found() {
 struct Blind(&'static str);
 
 impl Engine for Blind {
-    fn start(&self, words: &mut [u64; WORDS], cards: u8, blocks: u8) -> Answer {
-        Safe.start(words, cards, blocks)
+    fn start(&self, words: &mut [u64; WORDS], edition: u8, cards: u8, blocks: u8) -> Answer {
+        Safe.start(words, edition, cards, blocks)
     }
 
     fn apply(&self, words: &mut [u64; WORDS], event: Event) -> Answer {

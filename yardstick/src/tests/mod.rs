@@ -15,6 +15,7 @@ mod marked;
 mod meet;
 mod met;
 mod order;
+mod owned;
 mod picked;
 mod picture;
 mod reasons;
@@ -27,6 +28,7 @@ mod usage;
 mod words;
 
 use crate::chassis::Chassis;
+use crate::edition::Edition;
 use crate::events::Event;
 use crate::generate::generate;
 use crate::journal::{Reader, Record};
@@ -63,7 +65,11 @@ fn started(journal: &[u8]) -> Option<(Chassis, Vec<Event>)> {
     let mut chassis = None;
     for record in records(journal) {
         match record {
-            Record::Opening { cards, blocks } => chassis = Chassis::start(cards, blocks).ok(),
+            Record::Opening {
+                edition,
+                cards,
+                blocks,
+            } => chassis = Chassis::start(edition, cards, blocks).ok(),
             Record::Event(event) => events.push(event),
         }
     }
@@ -96,7 +102,7 @@ fn busy_chassis() -> Chassis {
         Event::Order,
         Event::Order,
     ];
-    let mut chassis = Chassis::start(3, 2).expect("the sizes fit");
+    let mut chassis = Chassis::start(Edition::Msi, 3, 2).expect("the sizes fit");
     for event in events {
         assert!(chassis.apply(event).is_ok(), "{event}");
     }

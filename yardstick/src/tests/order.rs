@@ -2,13 +2,14 @@
 
 use super::busy_chassis;
 use crate::chassis::{Chassis, OrderNumber, HOME, HOME_BLOCK_AT_START, LINE_ROOM};
+use crate::edition::Edition;
 use crate::events::{Delivered, Event, Ordered};
 use crate::refusal::Refusal;
 use crate::table::{GETS, GETX, I, II_A, IM_AD, IM_D, M, MI_A, PUTX, S, SM_AD, SM_D};
 
 /// A chassis whose only request is card 0's GETX for the only block.
 fn asked() -> Chassis {
-    let mut chassis = Chassis::start(2, 1).expect("the sizes fit");
+    let mut chassis = Chassis::start(Edition::Msi, 2, 1).expect("the sizes fit");
     assert_eq!(chassis.ask(0, 0, GETX, 3), Ok(()));
     chassis
 }
@@ -23,7 +24,7 @@ fn refused(mut chassis: Chassis) -> Option<Refusal> {
 
 #[test]
 fn the_65th_waiting_ask_is_7() {
-    let mut chassis = Chassis::start(3, 32).expect("the sizes fit");
+    let mut chassis = Chassis::start(Edition::Msi, 3, 32).expect("the sizes fit");
     for number in 0..LINE_ROOM as u8 {
         assert_eq!(chassis.ask(number / 32, number % 32, GETX, 0), Ok(()));
     }
@@ -107,7 +108,7 @@ fn a_rejoin_takes_what_is_the_cards_and_no_more() {
 
 #[test]
 fn a_rejoin_leaves_the_sharers() {
-    let mut chassis = Chassis::start(2, 1).expect("the sizes fit");
+    let mut chassis = Chassis::start(Edition::Msi, 2, 1).expect("the sizes fit");
     for card in 0..2 {
         assert_eq!(chassis.ask(card, 0, GETS, 0), Ok(()));
         assert_eq!(chassis.order(), Ok(Ordered::Granted));
@@ -123,7 +124,7 @@ fn a_rejoin_leaves_the_sharers() {
 
 #[test]
 fn an_asker_in_its_own_mask_keeps_its_copy() {
-    let mut chassis = Chassis::start(1, 1).expect("the sizes fit");
+    let mut chassis = Chassis::start(Edition::Msi, 1, 1).expect("the sizes fit");
     assert_eq!(chassis.ask(0, 0, GETS, 0), Ok(()));
     assert_eq!(chassis.order(), Ok(Ordered::Granted));
     assert_eq!(chassis.deliver(0), Ok(Delivered::Taken));

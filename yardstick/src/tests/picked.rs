@@ -22,7 +22,8 @@ fn every_case_is_in_a_stored_journal() {
 #[test]
 fn names_are_plain_and_differ() {
     let is_plain = |byte: u8| byte.is_ascii_lowercase() || byte.is_ascii_digit() || byte == b'_';
-    let mut names: Vec<&str> = picked_journals().iter().map(|picked| picked.name).collect();
+    let journals = picked_journals();
+    let mut names: Vec<&str> = journals.iter().map(|picked| &*picked.name).collect();
     assert!(names
         .iter()
         .all(|name| name.len() <= 40 && name.bytes().all(is_plain)));

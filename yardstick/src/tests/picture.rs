@@ -1,11 +1,13 @@
 //! The picture: its data gives back every state, and its page is safe.
 
 use crate::chassis::{Cell, Chassis, HomeBlock, Message, OrderNumber, Request, Retry};
+use crate::edition::Edition;
 use crate::generate::generate;
+use crate::marked::marked_sequences;
 use crate::picture::{page, Picture};
 use crate::random::Random;
 use crate::replay::{replay, Replay, JOURNAL_LIMIT};
-use crate::script::{ask, copy, deliver, journal_of, order, rejoin, start, store};
+use crate::script::{ask, copy, deliver, journal_of, order, rejoin, start, start_of, store};
 use crate::table::{self, GETX};
 use crate::tests::each_journal;
 
@@ -90,7 +92,7 @@ fn check(journal: &[u8]) {
         if rebuilt.is_none() {
             rebuilt = run
                 .chassis()
-                .and_then(|first| Chassis::start(first.cards, first.blocks).ok());
+                .and_then(|first| Chassis::start(first.edition, first.cards, first.blocks).ok());
         }
         if let Some(rebuilt) = &mut rebuilt {
             changes.iter().for_each(|change| apply(rebuilt, change));
@@ -192,10 +194,63 @@ fn the_names_of_the_states_are_in_the_tables_order() {
         (table::SM_D, "SM_D"),
         (table::MI_A, "MI_A"),
         (table::II_A, "II_A"),
+        (table::O, "O"),
+        (table::OM_AD, "OM_AD"),
+        (table::OI_A, "OI_A"),
     ];
+    assert_eq!(in_order.len(), table::STATES);
     for (state, name) in in_order {
         assert_eq!(table::NAMES[usize::from(state)], name);
     }
+}
+
+/// A page names the edition, and the states that the edition has alone.
+#[test]
+fn the_edition_is_told_with_its_states() {
+    let last = "[\"OI_A\",\"owner asked PUTX, still loads\",1]";
+    for (edition, name, has_owned) in [(Edition::Msi, "MSI", false), (Edition::Mosi, "MOSI", true)]
+    {
+        let journal = journal_of([start_of(edition, 2, 1)]);
+        let head = format!("<small>{name}, 2 cards, 1 block, 1 record, 0 refusals, 9 bytes<");
+        assert!(head_of(&journal).contains(&head));
+        assert_eq!(page_of(&journal).contains(last), has_owned);
+    }
+}
+
+/// Each state has a hue in the page's script.
+#[test]
+fn each_state_has_a_hue() {
+    let script = include_str!("../picture/page/colours.js");
+    let (_, hues) = script.split_once("const HUES = [").expect("the hues");
+    let (hues, _) = hues.split_once("];").expect("their end");
+    assert_eq!(hues.matches('[').count(), table::STATES);
+}
+
+/// Who sends the data, and who keeps the block: the owner at a GETS, home at
+/// an upgrade.
+#[test]
+fn what_becomes_of_an_owned_copy_is_told() {
+    let told = |name: &str, words: &str| {
+        let mut marked = marked_sequences().into_iter();
+        let marked = marked.find(|marked| marked.name == name).expect(name);
+        assert!(page_of(&marked.journal()).contains(words), "{words}");
+    };
+    told(
+        "m3",
+        "order number 3, GETS of card 1 for block 0: outcome 1, granted; card 0 sends 7\"",
+    );
+    told(
+        "m11",
+        "GETS of card 1 for block 0: outcome 1, granted; card 0 sends 7 and keeps the block",
+    );
+    told(
+        "m12",
+        "GETX of card 0 for block 0: outcome 1, granted; home sends 7\"",
+    );
+    told(
+        "m14",
+        "outcome 3, the put is taken; memory has 7, the sharers stay listed",
+    );
 }
 
 #[test]

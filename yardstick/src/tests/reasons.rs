@@ -2,6 +2,7 @@
 
 use super::busy_chassis;
 use crate::chassis::{Chassis, OrderNumber, Request, Retry, HOME};
+use crate::edition::Edition;
 use crate::events::Event;
 use crate::explain::{explain, Look};
 use crate::generate::generate;
@@ -11,8 +12,10 @@ use crate::reasons::{reason, refused};
 use crate::refusal::Refusal;
 use crate::replay::JOURNAL_LIMIT;
 use crate::run::Run;
-use crate::script::{ask, copy, deliver, drop_copy, journal_of, load, order, rejoin, start, store};
-use crate::table::{GETS, GETX, PUTX, S};
+use crate::script::{
+    ask, copy, deliver, drop_copy, journal_of, load, order, rejoin, start, start_of, store,
+};
+use crate::table::{GETS, GETX, O, OI_A, OM_AD, PUTX, S};
 
 /// The lines of `explain` that say why, each with the answer before it.
 fn told(journal: &[u8]) -> Vec<(String, String)> {
@@ -115,6 +118,47 @@ fn refusal_4_says_the_state_and_what_it_allows() {
     );
 }
 
+/// Card 0 with block 0 in O and card 1 with a copy, of 3 cards and 1 block.
+fn owned() -> Vec<Record> {
+    let started = [start_of(Edition::Mosi, 3, 1), ask(0, 0, GETX, 0), order()];
+    let shared = [deliver(0), ask(1, 0, GETS, 1), order(), deliver(0)];
+    started.into_iter().chain(shared).collect()
+}
+
+#[test]
+fn owned_copies_are_told_by_their_states() {
+    assert_eq!(
+        last(then(owned(), [store(0, 0, 1)]), "3 0"),
+        "card 0 is in O (11) for block 0, which gives no right to store"
+    );
+    assert_eq!(
+        last(then(owned(), [ask(0, 0, GETS, 0)]), "4 0"),
+        "card 0 is in O (11) for block 0, which allows GETX and PUTX only"
+    );
+    let putting = [ask(0, 0, PUTX, 0), drop_copy(0, 0)];
+    assert_eq!(
+        last(then(owned(), putting), "3 0"),
+        "card 0 is in OI_A (13) for block 0, which gives no right to drop"
+    );
+}
+
+/// An upgrade misses sharers alone, another's request the owner too.
+#[test]
+fn what_a_mask_misses_of_an_owned_copy() {
+    assert_eq!(
+        last(then(owned(), [ask(0, 0, GETX, 0), order()]), "0 2"),
+        "the mask 00000000 misses card 1 (sharer)"
+    );
+    assert_eq!(
+        last(then(owned(), [ask(2, 0, GETX, 0), order()]), "0 2"),
+        "the mask 00000000 misses card 0 (owner) and card 1 (sharer)"
+    );
+    assert_eq!(
+        last(then(owned(), [ask(2, 0, GETS, 2), order()]), "0 2"),
+        "the mask 00000010 misses card 0 (owner)"
+    );
+}
+
 #[test]
 fn refusals_5_and_6_say_the_kind_and_the_cards() {
     assert_eq!(
@@ -212,6 +256,35 @@ fn refusals_12_and_13_say_what_the_order_met() {
     );
 }
 
+/// An upgrade, and the put of an owned copy, of a card that is not the owner.
+#[test]
+fn refusal_13_says_who_owns_an_owned_copy() {
+    for (kind, state, asked) in [
+        (
+            GETX,
+            OM_AD,
+            "GETX (2), and for that block card 0 is in OM_AD (12)",
+        ),
+        (
+            PUTX,
+            OI_A,
+            "PUTX (3), and for that block card 0 is in OI_A (13)",
+        ),
+    ] {
+        let mut chassis = Chassis::start(Edition::Mosi, 2, 1).expect("the sizes fit");
+        assert_eq!(chassis.ask(0, 0, GETX, 0), Ok(()));
+        chassis.line.places[0].kind = kind;
+        chassis.cell_mut(0, 0).state = state;
+        chassis.cell_mut(1, 0).state = O;
+        chassis.home[0].owner = 1;
+        assert_eq!(chassis.clone().order(), Err(Refusal::Impossible));
+        let why = refused(&chassis, Event::Order, Refusal::Impossible);
+        let owner = "the owner is card 1, card 1 is in O (11)";
+        let due = format!("the head is card 0 block 0 {asked}, {owner}");
+        assert_eq!(why, Some(due));
+    }
+}
+
 /// Whatever a chassis holds, and whatever event is named, nothing is met that
 /// cannot be told.
 #[test]
@@ -294,7 +367,7 @@ fn where_the_run_ends_the_bytes_are_told() {
     );
     assert_eq!(
         first(b"\x01\x00\x06cohX\x01\x01"),
-        is("an opening's first four bytes are coh1")
+        is("an opening's first four bytes are coh1 or moh1")
     );
 }
 

@@ -4,13 +4,16 @@ use crate::chassis::{
     Chassis, HomeBlock, OrderNumber, Request, Retry, HOME, LINE_ROOM, MAX_BLOCKS, MAX_CARDS,
     POOL_ROOM,
 };
+use crate::edition::Edition;
 use crate::engine::{Engine, Safe};
 use crate::handed::wrong_with;
 use crate::random::Random;
 use crate::script::{ask, copy, deliver, drop_copy, load, order, rejoin, store};
 use crate::states::fabricate::fabricate;
 use crate::states::spoil::{draw_state, Form};
-use crate::table::{self, GETS, GETX, II_A, IM_AD, IS_AD, M, MI_A, PUTX, SM_AD, STATES};
+use crate::table::{
+    self, GETS, GETX, II_A, IM_AD, IS_AD, M, MI_A, O, OI_A, OM_AD, PUTX, SM_AD, STATES,
+};
 use crate::words::WORDS;
 
 /// How many seeds are drawn.
@@ -37,7 +40,9 @@ type Kind = (&'static str, fn(&Chassis) -> bool);
 
 /// The sizes, the counts and the last order number.
 #[rustfmt::skip]
-const HEADERS: [Kind; 12] = [
+const HEADERS: [Kind; 14] = [
+    ("MSI", |chassis| chassis.edition == Edition::Msi),
+    ("MOSI", |chassis| chassis.edition == Edition::Mosi),
     ("one card", |chassis| chassis.cards == 1),
     ("every card", |chassis| usize::from(chassis.cards) == MAX_CARDS),
     ("one block", |chassis| chassis.blocks == 1),
@@ -56,7 +61,10 @@ const HEADERS: [Kind; 12] = [
 
 /// What is in the places.
 #[rustfmt::skip]
-const PLACES: [Kind; 11] = [
+const PLACES: [Kind; 14] = [
+    ("owner in O that shares", |chassis| any_owner(chassis, |state, home| state == O && home.sharers >> home.owner & 1 == 1)),
+    ("owner in OM_AD", |chassis| any_owner(chassis, |state, _| state == OM_AD)),
+    ("owner in OI_A", |chassis| any_owner(chassis, |state, _| state == OI_A)),
     ("owner of no right", |chassis| any_home(chassis, |home, block| {
         home.owner != HOME && !table::row(chassis.cell(home.owner, block).state).load
     })),
@@ -83,16 +91,25 @@ const PLACES: [Kind; 11] = [
 
 /// What is wrong with a head that 13 is due for, each alone.
 #[rustfmt::skip]
-const IMPOSSIBLE: [Kind; 8] = [
+const IMPOSSIBLE: [Kind; 11] = [
     ("GETS not from 3", |chassis| is_head(chassis, GETS, |state, _, gives| state != IS_AD && gives)),
-    ("GETX not from 4 or 5", |chassis| is_head(chassis, GETX, |state, _, gives| {
-        !matches!(state, IM_AD | SM_AD) && gives
+    ("GETX not from 4, 5 or 12", |chassis| is_head(chassis, GETX, |state, _, gives| {
+        !matches!(state, IM_AD | SM_AD | OM_AD) && gives
     })),
-    ("PUTX not from 9 or 10", |chassis| is_head(chassis, PUTX, |state, _, _| !matches!(state, MI_A | II_A))),
+    ("GETX from 12 of another's", |chassis| is_head(chassis, GETX, |state, is_own, gives| {
+        state == OM_AD && !is_own && gives
+    })),
+    ("PUTX not from 9, 10 or 13", |chassis| is_head(chassis, PUTX, |state, _, _| {
+        !matches!(state, MI_A | II_A | OI_A)
+    })),
+    ("PUTX from 13 of another's", |chassis| is_head(chassis, PUTX, |state, is_own, _| state == OI_A && !is_own)),
     ("GETS of its own", |chassis| is_head(chassis, GETS, |state, is_own, _| state == IS_AD && is_own)),
     ("GETX of its own", |chassis| is_head(chassis, GETX, |state, is_own, _| state == SM_AD && is_own)),
     ("GETS, owner without data", |chassis| is_head(chassis, GETS, |state, is_own, gives| {
         state == IS_AD && !is_own && !gives
+    })),
+    ("GETX, owner without data", |chassis| is_head(chassis, GETX, |state, is_own, gives| {
+        matches!(state, IM_AD | SM_AD) && !is_own && !gives
     })),
     ("PUTX from 9 of another's", |chassis| is_head(chassis, PUTX, |state, is_own, _| state == MI_A && !is_own)),
     ("PUTX from 10 of its own", |chassis| is_head(chassis, PUTX, |state, is_own, _| state == II_A && is_own)),
@@ -100,6 +117,13 @@ const IMPOSSIBLE: [Kind; 8] = [
 
 fn any_home(chassis: &Chassis, is: impl Fn(&HomeBlock, u8) -> bool) -> bool {
     (0..chassis.blocks).any(|block| is(&chassis.home[usize::from(block)], block))
+}
+
+/// Whether a card that owns a block is in such a state for it.
+fn any_owner(chassis: &Chassis, is: impl Fn(u8, &HomeBlock) -> bool) -> bool {
+    any_home(chassis, |home, block| {
+        home.owner != HOME && is(chassis.cell(home.owner, block).state, home)
+    })
 }
 
 fn any_request(chassis: &Chassis, is: impl Fn(&Request) -> bool) -> bool {
@@ -116,16 +140,47 @@ fn is_head(chassis: &Chassis, kind: u8, is: impl Fn(u8, bool, bool) -> bool) -> 
     let cells = chassis.cells_of(head.block);
     let owner = chassis.home[usize::from(head.block)].owner;
     let is_own = owner == head.card;
-    let owns = |cell: usize| usize::from(owner) == cell && matches!(cells[cell].state, M | MI_A);
+    let has_data = |state: u8| matches!(state, M | MI_A | O | OM_AD | OI_A);
+    let owns = |cell: usize| usize::from(owner) == cell && has_data(cells[cell].state);
     let gives = owner == HOME || (!is_own && (0..cells.len()).any(owns));
     let is_held = cells.iter().any(|cell| table::awaits_data(cell.state));
     !is_held && is(cells[usize::from(head.card)].state, is_own, gives)
 }
 
+/// Heads that owned copies let through, whatever their masks.
+#[rustfmt::skip]
+const POSSIBLE: [Kind; 5] = [
+    ("an upgrade", |chassis| is_head(chassis, GETX, |state, is_own, _| state == OM_AD && is_own)),
+    ("a put from 13", |chassis| is_head(chassis, PUTX, |state, is_own, _| state == OI_A && is_own)),
+    ("an owner in 11", |chassis| is_asked_of(chassis, O)),
+    ("an owner in 12", |chassis| is_asked_of(chassis, OM_AD)),
+    ("an owner in 13", |chassis| is_asked_of(chassis, OI_A)),
+];
+
+/// Whether the head is a GETS or GETX that finds another owner in a state.
+fn is_asked_of(chassis: &Chassis, state: u8) -> bool {
+    let fits = |asker: u8, _, gives| matches!(asker, IS_AD | IM_AD | SM_AD) && gives;
+    let is_get = [GETS, GETX]
+        .into_iter()
+        .any(|kind| is_head(chassis, kind, fits));
+    let owner = chassis
+        .head()
+        .map(|head| (chassis.owner(head.block), head.block));
+    is_get
+        && owner.is_some_and(|(owner, block)| {
+            owner != HOME && chassis.cell(owner, block).state == state
+        })
+}
+
 #[test]
 fn every_kind_of_state_is_fabricated() {
     let all: Vec<Chassis> = fabricated().collect();
-    for (name, is) in HEADERS.iter().chain(&PLACES).chain(&IMPOSSIBLE) {
+    let kinds = HEADERS
+        .iter()
+        .chain(&PLACES)
+        .chain(&IMPOSSIBLE)
+        .chain(&POSSIBLE);
+    for (name, is) in kinds {
         let count = all.iter().filter(|chassis| is(chassis)).count();
         assert!(count >= OF_A_KIND, "{name}: {count}");
     }

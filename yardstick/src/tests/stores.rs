@@ -141,7 +141,7 @@ fn by_the_paper(before: &[Accepted], card: u8) -> Vec<Struck> {
 #[test]
 fn generated_runs_strike_what_the_paper_strikes() {
     let mut strikes = 0;
-    for seed in 0..300 {
+    for seed in 0..600 {
         let journal = generate(seed, seed % 2 == 1);
         let mut run = Run::new(&journal);
         let mut accepted = Vec::new();

@@ -5,12 +5,13 @@ const style = { colours: {}, patterns: [] };
 const HUES = [
   ["none"], ["loads"], ["stores"], ["loads", "rise"], ["stores", "rise"], ["loads", "rise", "stores"],
   ["loads", "dots"], ["stores", "dots"], ["loads", "dots", "stores"], ["stores", "fall", "leaves"], ["leaves", "fall"],
+  ["owns"], ["owns", "rise", "stores"], ["owns", "fall", "leaves"],
 ];
 const TILE = 8;
 
 function readColours() {
   const computed = getComputedStyle(document.documentElement);
-  for (const name of ["back", "soft", "ink", "dim", "edge", "accent", "bad", "bad-back", "none", "loads", "stores", "leaves",
+  for (const name of ["back", "soft", "ink", "dim", "edge", "accent", "bad", "bad-back", "none", "loads", "stores", "leaves", "owns",
     "granted", "back-to-line", "put", "message", "stale", "pale"]) {
     style.colours[name] = computed.getPropertyValue("--" + name).trim();
   }

@@ -108,8 +108,8 @@ const memoryLabels = ({ home: [memory] }) => ["memory " + memory, String(memory)
 function drawLabel(pen, labels, from, to, y, segment) {
   const label = fitting(pen, FONT, labels, to - from - 7);
   if (!label) return;
-  const state = segment.cell ? segment.cell[0] : -1;
-  pen.fillStyle = state >= 3 ? "rgba(255,255,255,0.88)" : fillOf(segment);
+  const state = segment.cell ? segment.cell[0] : -1, fill = fillOf(segment);
+  pen.fillStyle = typeof fill === "string" ? fill : "rgba(255,255,255,0.88)";
   pen.fillRect(from + 3, y - 7, widthOf(pen, FONT, label) + 4, 14);
   pen.fillStyle = state > 0 ? "#111" : state === 0 ? style.colours.dim : style.colours.ink;
   pen.fillText(label, from + 5, y + 0.5);
