@@ -8,6 +8,7 @@ use words::layout::BLOCKS;
 use words::layout::BLOCKS_AT;
 use words::layout::CARDS_AT;
 use words::layout::CELL_WORDS;
+use words::layout::EDITION_AT;
 use words::layout::HOME_WORDS;
 use words::layout::LINE;
 use words::layout::PLACE_WORDS;
@@ -28,8 +29,9 @@ fn set(w: &mut [u64; WORDS], at: usize, value: u64) {
 }
 
 // What Start is to make: all cells I, memory 0, owners home, the rest empty, unused places too.
-pub(crate) fn fresh(cards: u64, blocks: u64) -> [u64; WORDS] {
+pub(crate) fn fresh(cards: u64, blocks: u64, edition: u64) -> [u64; WORDS] {
     let mut w = [0u64; WORDS];
+    w[EDITION_AT] = edition;
     w[CARDS_AT] = cards;
     w[BLOCKS_AT] = blocks;
     let mut block: u8 = 0;

@@ -19,8 +19,8 @@ fn main() {
 
 // The lines of a script: the state that events change, the words that are expected of it, and how many events were done without a word.
 fn run(script: &[u8]) {
-    let mut state = fresh(0, 0);
-    let mut expected = fresh(0, 0);
+    let mut state = fresh(0, 0, 0);
+    let mut expected = fresh(0, 0, 0);
     let mut kept = [0u64; KEPT];
     let mut done: u64 = 0;
     let mut at = 0;

@@ -11,6 +11,7 @@ use journal::tags::LOAD;
 use journal::tags::ORDER;
 use journal::tags::STORE;
 use rules::Answer;
+use rules::Edition;
 use rules::Event;
 use words::layout::WORDS;
 
@@ -27,6 +28,14 @@ pub(crate) fn named(state: &mut [u64; WORDS], n: &[u64; NUMBERS]) -> Answer {
         DELIVER => events::deliver(state, first),
         COPY => events::copy(state, first),
         _ => events::rejoin(state, first),
+    }
+}
+
+// The edition of a number: 0 MSI, any other MOSI.
+pub(crate) fn edition(n: u64) -> Edition {
+    match n {
+        0 => Edition::Msi,
+        _ => Edition::Mosi,
     }
 }
 

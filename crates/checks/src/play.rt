@@ -8,6 +8,7 @@ use crate::image::use_again;
 use crate::lines::NUMBERS;
 use crate::lines::byte;
 use crate::lines::line_of;
+use crate::named::edition;
 use crate::named::event_of;
 use crate::named::named;
 use crate::report::begin;
@@ -65,7 +66,7 @@ fn prepare(
 ) -> bool {
     match letter {
         b'F' => {
-            *expected = fresh(n[0], n[1]);
+            *expected = fresh(n[0], n[1], n[2]);
         }
         b'K' => keep(kept, n[0], expected),
         b'B' => use_again(kept, n[0], expected),
@@ -89,7 +90,7 @@ fn check(
 ) {
     match letter {
         b's' => {
-            let answer = start_in(state, byte(n[0]), byte(n[1]));
+            let answer = start_in(state, edition(n[2]), byte(n[0]), byte(n[1]));
             tell(name, answer, state, expected, b", words as expected");
         }
         b'e' => event(name, state, n, expected),

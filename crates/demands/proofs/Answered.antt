@@ -6,7 +6,8 @@ use mathlib.Core.List.{List, [], _∷_, _++_}
 use mathlib.Core.Path.{_≡_, refl, sym, ap, subst, _∙_}
 use mathlib.Core.Logic.{_≢_, inl, inr}
 use lib.ListN.{length, drop}
-use Rattle.rules.specs.Chassis.{Chassis, fresh}
+use lib.Dec.{eqb}
+use Rattle.rules.specs.Chassis.{Chassis, noChassis}
 use Rattle.rules.specs.Answers.{refusalOf, valueOf, Result, Reason, refusedBy, FirstHolds, NoneHolds}
 use Rattle.rules.specs.Formed.{sizes}
 use Rattle.rules.specs.Events.{reasons, effect, EventFits, step, start}
@@ -15,7 +16,7 @@ use Rattle.rules.specs.declared.Answer.the-variants.{Done, Refused}
 use Rattle.rules.specs.declared.Refusal.{Refusal}
 use Rattle.rules.specs.declared.Refusal.the-variants.{NoSuchSize, IllFormed}
 use Rattle.rules.specs.declared.Event.{Event}
-use Rattle.rules.proofs.Tests.{test}
+use Rattle.rules.proofs.Tests.{test, cond-cases}
 use Rattle.rules.proofs.Refusals.{IsDone, effect-done, refuses, accepts, refused-keeps}
 use Rattle.rules.proofs.Start.{refused-start}
 use Rattle.journal.specs.Records.{bytesOf}
@@ -30,7 +31,7 @@ use Rattle.words.specs.Words.{words, view, formed}
 use Rattle.words.specs.Inner.Parts.{act}
 use Rattle.words.proofs.View.{formed-words, formed-chassis}
 use Rattle.words.proofs.Does.{step-act}
-use Rattle.words.proofs.Keeps.{step-says}
+use Rattle.words.proofs.Keeps.{step-says, fresh-view}
 use Rattle.engine.specs.Promise.{Starts, Answers}
 use Rattle.engine.specs.Running.{fit, standing, ran, Runs}
 use Rattle.engine.specs.Looking.{Look, lookReasons, shown, unless, looks}
@@ -44,9 +45,13 @@ use Rattle.firmware.specs.Halves.{half, Says}
 use Rattle.firmware.specs.Journals.{foundNumber, fieldsAfter, Writes, reachedIn, ranNumber, standingAfter}
 use Rattle.firmware.specs.Looks.{seenNumber, seenAfter}
 use Rattle.firmware.specs.declared.Named.{Named}
-use Rattle.firmware.specs.declared.Named.the-variants.{One, Unknown}
-use Rattle.firmware.proofs.Unique.{halves-tell, values-fit}
+use Rattle.firmware.specs.declared.Named.the-variants.{One, No}
+use Rattle.firmware.proofs.Unique.{halves-tell, values-fit, byte-starts}
 use Rattle.demands.specs.Demands.{Exactly-when, Refused-leaves, As-the-rules}
+use Rattle.rules.specs.Numbers.{editionNo}
+use Rattle.rules.specs.declared.Edition.the-variants.{Msi, Mosi}
+use Rattle.firmware.specs.Editions.{byEdition, startByte}
+use Rattle.rules.specs.declared.Edition.{Edition}
 
 -- An event on formed words, and on others
 
@@ -91,13 +96,20 @@ unfolding unless
 look-goes [] s h = refl
 look-goes (r ∷ rs) s h = rw (h .0) (look-goes rs s (h .1))
 
+-- 14 is decided by the sizes
+size-decides : (e : Edition) (cards blocks : ℕ) → start e cards blocks .answer ≡ cond (sizes cards blocks) (Done 0) (Refused NoSuchSize)
+unfolding start refusedBy
+size-decides e cards blocks = test (sizes cards blocks) (λ h. rw h) (λ h. rw h)
+
 pub exactly-when : Exactly-when
-unfolding start refusedBy looks
+unfolding looks
 exactly-when = record {
   ill-formed = λ w e r w′ a f. ill a f .0;
   refused = λ w e r w′ a f x h. decided a f _ (refuses (view w) (reasons (view w) e) (effect (view w) e) x h);
   accepted = λ w e r w′ a f h. ap refusalOf (decided a f _ (accepts (view w) (reasons (view w) e) (effect (view w) e) h)) ∙ done-0 (effect (view w) e .answer) (effect-done (view w) e);
-  started = λ cards blocks r w′ s. s .answer ∙ test (sizes cards blocks) (λ h. rw h) (λ h. rw h);
+  started = λ e cards blocks r w′ s. s .answer ∙ size-decides e cards blocks;
+  c-started = λ i cards blocks r w′ s. s .answer ∙ ap (λ (o : Result). o .answer) (byte-starts .edition i cards blocks) ∙ size-decides i cards blocks;
+  c-no-edition = λ e cards blocks r w′ s n. s .answer ∙ ap (λ (o : Result). o .answer) (byte-starts .no-edition e cards blocks n);
   written = λ buffer at bytes r buffer′ p. p .answer;
   look-ill-formed = λ w q f. rw f;
   look-refused = λ w q f x h. rw f (look-stops (lookReasons (view w) q) (shown (view w) q) x h);
@@ -150,7 +162,7 @@ write-left : (buffer : List ℕ) (place : ℕ) (x : Named) (n : ℕ) (buffer′ 
 write-left buffer place (One one) n buffer′ place′ h x =
     let refused : writtenNo (h .0) ≢ 0 = λ z. x (ap (λ m. m / half) (h .2 ∙ ap (λ m. m * half) z)) in
     (no-room buffer place (bytesOf one) (h .0) buffer′ (h .1) refused, h .3 ∙ place-left place (h .0) refused)
-write-left buffer place Unknown n buffer′ place′ h x = (h .1, h .2)
+write-left buffer place (No d) n buffer′ place′ h x = (h .1, h .2)
 
 stands-left : (l : List ℕ) (r : Ran) → ranNumber r / half ≢ 0 → (refusedRun r ≢ 0) × (standingAfter l r ≡ l)
 unfolding refusedRun
@@ -166,13 +178,22 @@ seen-left l (Seen.Cell x) h = absurd (h refl)
 seen-left l (Seen.Home o) h = absurd (h refl)
 seen-left l (Seen.Refused x) h = refl
 
+-- a refused Start makes no chassis, whatever its byte was
+byte-refused : (e cards blocks : ℕ) (x : Refusal) → startByte e cards blocks .answer ≡ Refused x → startByte e cards blocks .after ≡ noChassis
+unfolding startByte byEdition
+byte-refused e cards blocks x = cond-cases (λ (o : Result). o .answer ≡ Refused x → o .after ≡ noChassis) (eqb e (editionNo Msi)) _ _
+    (λ _ h. refused-start Msi cards blocks x h .0)
+    (λ _. cond-cases (λ (o : Result). o .answer ≡ Refused x → o .after ≡ noChassis) (eqb e (editionNo Mosi)) _ _
+    (λ _ h. refused-start Mosi cards blocks x h .0) (λ _ _. refl))
+
 pub refused-leaves : Refused-leaves
 unfolding refusedRun
 refused-leaves = record {
   event = λ w e x w′ a. kept a x refl;
   bytes = λ buffer at bytes buffer′ p. no-room buffer at bytes NoRoom buffer′ p (λ z. absurd (omega (arith, z)));
   run = λ w journal s t x w′ t′ h. run-left w journal s t (Ran.Refused x) w′ t′ h (λ z. absurd (omega (arith, z)));
-  start = λ cards blocks x w′ s. s .after ∙ ap words (refused-start cards blocks x (sym (s .answer)) .0);
+  start = λ e cards blocks x w′ s. s .after ∙ ap words (refused-start e cards blocks x (sym (s .answer)) .0);
+  c-start = λ e cards blocks x w′ s. s .after ∙ ap words (byte-refused e cards blocks x (sym (s .answer)));
   c-event = λ w e n w′ h z.
       let upper = ap (λ m. m / half) (h .told) ∙ halves-tell (h .answer) (values-fit .event w e (h .answer) w′ (h .kept)) .0 in
       says-refused (h .answer) (λ _. w′ ≡ w) (λ d. z (upper ∙ d)) (λ x is. kept (h .kept) x is) .1;
@@ -194,16 +215,22 @@ next-view w e w′ f h a =
     let same = formed-words w h in
     ap view a ∙ step-says (view w) e f (subst (λ (v : List ℕ). formed v ≡ true) same h, ap view (sym same)) .1
 
+byte-means : (e cards blocks : ℕ) → view (words (startByte e cards blocks .after)) ≡ startByte e cards blocks .after
+unfolding startByte byEdition
+byte-means e cards blocks = cond-cases (λ (o : Result). view (words (o .after)) ≡ o .after) (eqb e (editionNo Msi)) _ _ (λ _. start-means Msi cards blocks)
+    (λ _. cond-cases (λ (o : Result). view (words (o .after)) ≡ o .after) (eqb e (editionNo Mosi)) _ _ (λ _. start-means Mosi cards blocks) (λ _. fresh-view Msi 0 0))
+
 pub as-the-rules : As-the-rules
 as-the-rules = record {
-  at-start = λ cards blocks r w′ s. (ap refusalOf (s .answer), ap valueOf (s .answer), ap view (s .after) ∙ start-means cards blocks);
+  at-start = λ e cards blocks r w′ s. (ap refusalOf (s .answer), ap valueOf (s .answer), ap view (s .after) ∙ start-means e cards blocks);
+  c-edition = byte-starts;
   at-event = λ w e r w′ f h a. let k = well a h in (ap refusalOf (k .0), ap valueOf (k .0), next-view w e w′ f h (k .1));
-  c-at-start = λ cards blocks n w′ h.
+  c-at-start = λ e cards blocks n w′ h.
       let s = h .kept in
-      let t = halves-tell (h .answer) (values-fit .start cards blocks (h .answer) w′ s) in (
+      let t = halves-tell (h .answer) (values-fit .start e cards blocks (h .answer) w′ s) in (
         ap (λ m. m / half) (h .told) ∙ t .0 ∙ ap refusalOf (s .answer),
         ap (λ m. m % half) (h .told) ∙ t .1 ∙ ap valueOf (s .answer),
-        ap view (s .after) ∙ start-means cards blocks,
+        ap view (s .after) ∙ byte-means e cards blocks,
       );
   c-at-event = λ w e n w′ f g h.
       let k = well (h .kept) g in

@@ -60,7 +60,9 @@ use Rattle.rules.proofs.table.waits.Met as table-waits
 use Rattle.rules.proofs.table.is_reader.Met as table-is-reader
 use Rattle.rules.proofs.table.can_give.Met as table-can-give
 use Rattle.rules.proofs.table.comes_from.Met as table-comes-from
+use Rattle.rules.proofs.table.upgrades.Met as table-upgrades
 use Rattle.rules.proofs.table.put_stands.Met as table-put-stands
+use Rattle.rules.proofs.table.leaves_sharers.Met as table-leaves-sharers
 use Rattle.rules.proofs.table.granted_to.Met as table-granted-to
 use Rattle.rules.proofs.table.filled_to.Met as table-filled-to
 use Rattle.demands.specs.Demands.{Every-entry}
@@ -128,7 +130,9 @@ every-entry = record {
   is-reader = λ M. table-is-reader.met;
   can-give = λ M. table-can-give.met;
   comes-from = λ M. table-comes-from.met;
+  upgrades = λ M. table-upgrades.met;
   put-stands = λ M. table-put-stands.met;
+  leaves-sharers = λ M. table-leaves-sharers.met;
   granted-to = λ M. table-granted-to.met;
   filled-to = λ M. table-filled-to.met;
 }

@@ -45,7 +45,7 @@ use Rattle.firmware.specs.Halves.{half, Says}
 use Rattle.firmware.specs.Journals.{foundNumber, ranNumber, Writes}
 use Rattle.firmware.specs.Looks.{seenNumber}
 use Rattle.firmware.specs.declared.Named.{Named}
-use Rattle.firmware.specs.declared.Named.the-variants.{One, Unknown}
+use Rattle.firmware.specs.declared.Named.the-variants.{One, No}
 use Rattle.firmware.proofs.Unique.{halves-tell, values-fit}
 use Rattle.demands.specs.Demands.{engineNumbers, readingNumbers, Listed, By-number}
 
@@ -142,7 +142,7 @@ seen (Seen.Refused x) = upper _ (refusalNo x) refl (refusal-listed x)
 
 writes : (buffer : List ℕ) (place : ℕ) (x : Named) (n : ℕ) (buffer′ : List ℕ) (place′ : ℕ) → Writes buffer place x n buffer′ place′ → Listed (n / half)
 writes buffer place (One one) n buffer′ place′ h = upper n (writtenNo (h .0)) (h .2) (written (h .0))
-writes buffer place Unknown n buffer′ place′ h = upper n (damageNo UnknownTag) (h .0) (damage-listed UnknownTag)
+writes buffer place (No d) n buffer′ place′ h = upper n (damageNo d) (h .0) (damage-listed d)
 
 pub by-number : By-number
 unfolding oneOf
@@ -150,8 +150,8 @@ by-number = record {
   refusal = refusal;
   damage = damage;
   no-room = refl;
-  c-start = λ cards blocks n w′ h. subst Listed
-      (sym (ap (λ m. m / half) (h .told) ∙ halves-tell (h .answer) (values-fit .start cards blocks (h .answer) w′ (h .kept)) .0)) (answer (h .answer));
+  c-start = λ e cards blocks n w′ h. subst Listed
+      (sym (ap (λ m. m / half) (h .told) ∙ halves-tell (h .answer) (values-fit .start e cards blocks (h .answer) w′ (h .kept)) .0)) (answer (h .answer));
   c-event = λ w e n w′ h. subst Listed
       (sym (ap (λ m. m / half) (h .told) ∙ halves-tell (h .answer) (values-fit .event w e (h .answer) w′ (h .kept)) .0)) (answer (h .answer));
   c-read = λ journal place l n place′ l′ h. subst (λ m. Listed (m / half)) (sym (h .answer)) (found (readAt journal place));

@@ -1,7 +1,7 @@
 -- What the customer asked for, in the customer's words and order: a reader begins here.
 --
 -- `Every-entry` says what each public function promises: Starts and Answers (engine/specs/Promise), Runs (engine/specs/Running), readAt and
--- Puts (journal/specs), looks (engine/specs/Looking), for C Says, Reads, Writes, RunSays and Shows (firmware/specs), and for the bench
+-- Puts (journal/specs), looks (engine/specs/Looking), for C Says, StartsByte, Reads, Writes, RunSays and Shows (firmware/specs), and for the bench
 -- Replays (bench/specs). All else is claimed of whatever keeps these promises. What they say is in the rules (rules/specs), the words of a
 -- chassis (words/specs) and the records (journal/specs), each in the paper's words. EventFits and Bytes say of numbers what the kinds u32
 -- and u8 say of the arguments.
@@ -27,15 +27,19 @@ use Rattle.rules.specs.Table.{
   isReader,
   canGive,
   comesFrom,
+  upgrades,
   putStands,
+  leavesSharers,
   grantedTo,
   filledTo,
 }
-use Rattle.rules.specs.Chassis.{fresh}
+use Rattle.rules.specs.Numbers.{editionNo}
+use Rattle.rules.specs.Chassis.{noChassis}
 use Rattle.rules.specs.Answers.{refusalNo, refusalOf, valueOf, FirstHolds, NoneHolds}
 use Rattle.rules.specs.Formed.{sizes}
 use Rattle.rules.specs.Events.{reasons, EventFits, step, start}
 use Rattle.rules.specs.Claims.{One-answer}
+use Rattle.rules.specs.declared.Edition.{Edition}
 use Rattle.rules.specs.declared.Answer.{Answer}
 use Rattle.rules.specs.declared.Answer.the-variants.{Done, Refused}
 use Rattle.rules.specs.declared.Refusal.{Refusal}
@@ -65,7 +69,8 @@ use Rattle.firmware.specs.Fields.{named}
 use Rattle.firmware.specs.Journals.{Reads, Writes, RunSays}
 use Rattle.firmware.specs.Looks.{Shows}
 use Rattle.firmware.specs.Sizes.{headerVersion}
-use Rattle.firmware.specs.Claims.{Fields-name, Start-says-unique, Event-says-unique, Reads-unique, Writes-unique, Run-says-unique, Shows-unique}
+use Rattle.firmware.specs.Editions.{startByte, StartsByte}
+use Rattle.firmware.specs.Claims.{Byte-starts, Fields-name, Start-says-unique, Event-says-unique, Reads-unique, Writes-unique, Run-says-unique, Shows-unique}
 use Rattle.firmware.specs.declared.Named.{Named}
 use Rattle.bench.specs.Replaying.{Replays, Replays-unique}
 use Rattle.engine.proofs.start.start as start-start
@@ -129,7 +134,9 @@ use Rattle.rules.proofs.table.waits as table-waits
 use Rattle.rules.proofs.table.is_reader as table-is-reader
 use Rattle.rules.proofs.table.can_give as table-can-give
 use Rattle.rules.proofs.table.comes_from as table-comes-from
+use Rattle.rules.proofs.table.upgrades as table-upgrades
 use Rattle.rules.proofs.table.put_stands as table-put-stands
+use Rattle.rules.proofs.table.leaves_sharers as table-leaves-sharers
 use Rattle.rules.proofs.table.granted_to as table-granted-to
 use Rattle.rules.proofs.table.filled_to as table-filled-to
 use Rattle.demands.specs.Entry.{Keeps}
@@ -138,8 +145,8 @@ use Rattle.demands.specs.Entry.{Keeps}
 -- second, a .1 .1 .0 the third and so on, r or n the result, end .0 the first argument at the end; `now` is what a reference refers to.
 pub record Every-entry : Type 2 where
   -- Start, with the words that it makes, or in words that are lent
-  pub start : Keeps start-start.ended start-start.Symbol.routine (λ κs a r end. Starts (a .0) (a .1 .0) (r .answer) (r .state))
-  pub start-in : Keeps start-in.ended start-in.Symbol.routine (λ κs a r end. Starts (a .1 .0) (a .1 .1 .0) r (now (end .0)))
+  pub start : Keeps start-start.ended start-start.Symbol.routine (λ κs a r end. Starts (a .0) (a .1 .0) (a .1 .1 .0) (r .answer) (r .state))
+  pub start-in : Keeps start-in.ended start-in.Symbol.routine (λ κs a r end. Starts (a .1 .0) (a .1 .1 .0) (a .1 .1 .1 .0) r (now (end .0)))
   -- the events, and any event
   pub load : Keeps events-load.ended events-load.Symbol.routine (λ κs a r end. Answers (now (a .0)) (Load (a .1 .0) (a .1 .1 .0)) r (now (a .0)))
   pub store : Keeps events-store.ended events-store.Symbol.routine (λ κs a r end. Answers (now (a .0)) (Store (a .1 .0) (a .1 .1 .0) (a .1 .1 .1 .0)) r (now (end .0)))
@@ -174,7 +181,7 @@ pub record Every-entry : Type 2 where
   pub damage-no : Keeps numbers-damage-no.ended numbers-damage-no.Symbol.routine (λ κs a r end. r ≡ damageNo (a .0))
   pub written-no : Keeps numbers-written-no.ended numbers-written-no.Symbol.routine (λ κs a r end. r ≡ writtenNo (a .0))
   -- the exports for C: n is the number that is answered
-  pub c-start : Keeps coherence-start.ended coherence-start.Symbol.routine (λ κs a n end. Says (λ r. Starts (a .1 .0) (a .1 .1 .0) r (now (end .0))) n)
+  pub c-start : Keeps coherence-start.ended coherence-start.Symbol.routine (λ κs a n end. Says (λ r. StartsByte (a .1 .0) (a .1 .1 .0) (a .1 .1 .1 .0) r (now (end .0))) n)
   pub c-load : Keeps coherence-load.ended coherence-load.Symbol.routine (λ κs a n end. Says (λ r. Answers (now (a .0)) (Load (a .1 .0) (a .1 .1 .0)) r (now (a .0))) n)
   pub c-store : Keeps coherence-store.ended coherence-store.Symbol.routine (λ κs a n end. Says (λ r. Answers (now (a .0)) (Store (a .1 .0) (a .1 .1 .0) (a .1 .1 .1 .0)) r (now (end .0))) n)
   pub c-drop : Keeps coherence-drop.ended coherence-drop.Symbol.routine (λ κs a n end. Says (λ r. Answers (now (a .0)) (Drop (a .1 .0) (a .1 .1 .0)) r (now (end .0))) n)
@@ -201,14 +208,16 @@ pub record Every-entry : Type 2 where
   pub asks-getx : Keeps table-asks-getx.ended table-asks-getx.Symbol.routine (λ κs a r end. r ≡ asksGetx (a .0))
   pub asks-putx : Keeps table-asks-putx.ended table-asks-putx.Symbol.routine (λ κs a r end. r ≡ asksPutx (a .0))
   pub asked : Keeps table-asked.ended table-asked.Symbol.routine (λ κs a r end. r ≡ asked (a .0) (a .1 .0))
-  pub sees-gets : Keeps table-sees-gets.ended table-sees-gets.Symbol.routine (λ κs a r end. r ≡ seesGets (a .0))
+  pub sees-gets : Keeps table-sees-gets.ended table-sees-gets.Symbol.routine (λ κs a r end. r ≡ seesGets (a .0) (a .1 .0))
   pub sees-getx : Keeps table-sees-getx.ended table-sees-getx.Symbol.routine (λ κs a r end. r ≡ seesGetx (a .0))
   pub drops : Keeps table-drops.ended table-drops.Symbol.routine (λ κs a r end. r ≡ drops (a .0))
   pub waits : Keeps table-waits.ended table-waits.Symbol.routine (λ κs a r end. r ≡ waits (a .0))
   pub is-reader : Keeps table-is-reader.ended table-is-reader.Symbol.routine (λ κs a r end. r ≡ isReader (a .0))
   pub can-give : Keeps table-can-give.ended table-can-give.Symbol.routine (λ κs a r end. r ≡ canGive (a .0))
   pub comes-from : Keeps table-comes-from.ended table-comes-from.Symbol.routine (λ κs a r end. r ≡ comesFrom (a .0) (a .1 .0))
+  pub upgrades : Keeps table-upgrades.ended table-upgrades.Symbol.routine (λ κs a r end. r ≡ upgrades (a .0))
   pub put-stands : Keeps table-put-stands.ended table-put-stands.Symbol.routine (λ κs a r end. r ≡ putStands (a .0))
+  pub leaves-sharers : Keeps table-leaves-sharers.ended table-leaves-sharers.Symbol.routine (λ κs a r end. r ≡ leavesSharers (a .0))
   pub granted-to : Keeps table-granted-to.ended table-granted-to.Symbol.routine (λ κs a r end. r ≡ grantedTo (a .0))
   pub filled-to : Keeps table-filled-to.ended table-filled-to.Symbol.routine (λ κs a r end. r ≡ filledTo (a .0))
 
@@ -231,7 +240,7 @@ pub record By-number : Type 0 where
   pub refusal : (x : Refusal) → oneOf engineNumbers (refusalNo x) ≡ true
   pub damage : (d : Damage) → oneOf readingNumbers (damageNo d) ≡ true
   pub no-room : oneOf writingNumbers (writtenNo NoRoom) ≡ true
-  pub c-start : (cards blocks n : ℕ) (w′ : List ℕ) → Says (λ r. Starts cards blocks r w′) n → Listed (n / half)
+  pub c-start : (e cards blocks n : ℕ) (w′ : List ℕ) → Says (λ r. StartsByte e cards blocks r w′) n → Listed (n / half)
   pub c-event : (w : List ℕ) (e : Event) (n : ℕ) (w′ : List ℕ) → Says (λ r. Answers w e r w′) n → Listed (n / half)
   pub c-read : (journal : List ℕ) (place : ℕ) (l : List ℕ) (n place′ : ℕ) (l′ : List ℕ) → Reads journal place l n place′ l′ → Listed (n / half)
   pub c-write : (buffer : List ℕ) (place : ℕ) (x : Named) (n : ℕ) (buffer′ : List ℕ) (place′ : ℕ) → Writes buffer place x n buffer′ place′ → Listed (n / half)
@@ -246,7 +255,11 @@ pub record Exactly-when : Type 0 where
       → (x : Refusal) → FirstHolds (reasons (view w) e) x → r ≡ Refused x
   pub accepted : (w : List ℕ) (e : Event) (r : Answer) (w′ : List ℕ) → Answers w e r w′ → formed w ≡ true
       → NoneHolds (reasons (view w) e) → refusalOf r ≡ 0
-  pub started : (cards blocks : ℕ) (r : Answer) (w′ : List ℕ) → Starts cards blocks r w′ → r ≡ cond (sizes cards blocks) (Done 0) (Refused NoSuchSize)
+  pub started : (e : Edition) (cards blocks : ℕ) (r : Answer) (w′ : List ℕ) → Starts e cards blocks r w′ → r ≡ cond (sizes cards blocks) (Done 0) (Refused NoSuchSize)
+  pub c-started : (i : Edition) (cards blocks : ℕ) (r : Answer) (w′ : List ℕ) → StartsByte (editionNo i) cards blocks r w′
+      → r ≡ cond (sizes cards blocks) (Done 0) (Refused NoSuchSize)
+  pub c-no-edition : (e cards blocks : ℕ) (r : Answer) (w′ : List ℕ) → StartsByte e cards blocks r w′ → ((i : Edition) → e ≢ editionNo i)
+      → r ≡ Refused NoSuchSize
   pub written : (buffer : List ℕ) (at : ℕ) (bytes : List ℕ) (r : Written) (buffer′ : List ℕ) → Puts buffer at bytes r buffer′
       → r ≡ cond (fits buffer at bytes) (UpTo (at + length bytes)) NoRoom
   pub look-ill-formed : (w : List ℕ) (q : Look) → formed w ≡ false → looks w q ≡ Seen.Refused IllFormed
@@ -259,7 +272,8 @@ pub record Refused-leaves : Type 0 where
   pub bytes : (buffer : List ℕ) (at : ℕ) (bytes buffer′ : List ℕ) → Puts buffer at bytes NoRoom buffer′ → buffer′ ≡ buffer
   pub run : (w journal : List ℕ) (s : Reached) (t : List ℕ) (x : Refusal) (w′ t′ : List ℕ)
       → Runs w journal s t (Ran.Refused x) w′ t′ → (w′ ≡ w) × (t′ ≡ t)
-  pub start : (cards blocks : ℕ) (x : Refusal) (w′ : List ℕ) → Starts cards blocks (Refused x) w′ → w′ ≡ words (fresh 0 0)
+  pub start : (e : Edition) (cards blocks : ℕ) (x : Refusal) (w′ : List ℕ) → Starts e cards blocks (Refused x) w′ → w′ ≡ words noChassis
+  pub c-start : (e cards blocks : ℕ) (x : Refusal) (w′ : List ℕ) → StartsByte e cards blocks (Refused x) w′ → w′ ≡ words noChassis
   pub c-event : (w : List ℕ) (e : Event) (n : ℕ) (w′ : List ℕ) → Says (λ r. Answers w e r w′) n → n / half ≢ 0 → w′ ≡ w
   pub c-read : (journal : List ℕ) (place : ℕ) (l : List ℕ) (n place′ : ℕ) (l′ : List ℕ)
       → Reads journal place l n place′ l′ → n / half ≢ 0 → (place′ ≡ place) × (l′ ≡ l)
@@ -298,12 +312,13 @@ pub record Demand-1 : Type 2 where
 
 -- what the rules answer, and the chassis that they leave, is what is answered and what the words then say
 pub record As-the-rules : Type 0 where
-  pub at-start : (cards blocks : ℕ) (r : Answer) (w′ : List ℕ) → Starts cards blocks r w′ → let o = start cards blocks in
+  pub at-start : (e : Edition) (cards blocks : ℕ) (r : Answer) (w′ : List ℕ) → Starts e cards blocks r w′ → let o = start e cards blocks in
       (refusalOf r ≡ refusalOf (o .answer)) × (valueOf r ≡ valueOf (o .answer)) × (view w′ ≡ o .after)
   pub at-event : (w : List ℕ) (e : Event) (r : Answer) (w′ : List ℕ) → EventFits e → formed w ≡ true → Answers w e r w′ → let o = step (view w) e in
       (refusalOf r ≡ refusalOf (o .answer)) × (valueOf r ≡ valueOf (o .answer)) × (view w′ ≡ o .after)
-  pub c-at-start : (cards blocks n : ℕ) (w′ : List ℕ) → Says (λ r. Starts cards blocks r w′) n → let o = start cards blocks in
+  pub c-at-start : (e cards blocks n : ℕ) (w′ : List ℕ) → Says (λ r. StartsByte e cards blocks r w′) n → let o = startByte e cards blocks in
       (n / half ≡ refusalOf (o .answer)) × (n % half ≡ valueOf (o .answer)) × (view w′ ≡ o .after)
+  pub c-edition : Byte-starts
   pub c-at-event : (w : List ℕ) (e : Event) (n : ℕ) (w′ : List ℕ) → EventFits e → formed w ≡ true → Says (λ r. Answers w e r w′) n → let o = step (view w) e in
       (n / half ≡ refusalOf (o .answer)) × (n % half ≡ valueOf (o .answer)) × (view w′ ≡ o .after)
 
@@ -337,7 +352,7 @@ pub record Demand-2 : Type 0 where
 pub record Demand-3 : Type 0 where
   pub calls-coherent : Calls-coherent
 
--- M1 to M10
+-- M1 to M16
 pub record Marked-sequences : Type 0 where
   pub marked-come : Marked-come
 

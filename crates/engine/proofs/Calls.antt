@@ -15,22 +15,24 @@ use Rattle.rules.proofs.Demand.{rules-coherent}
 use Rattle.words.specs.Words.{words, view, formed}
 use Rattle.engine.specs.Promise.{Answers}
 use Rattle.engine.specs.Calls.{Called, started, called, Calls-coherent}
+use Rattle.rules.specs.declared.Edition.{Edition}
 use Rattle.words.proofs.Keeps.{Sayable, step-says, start-says}
 
 -- the words and the log are those of a run from an accepted Start
 record Follows (w : List ℕ) (log : List Did) : Type 0 where
+  edition : Edition
   cards : ℕ
   blocks : ℕ
   value : ℕ
-  accepted : start cards blocks .answer ≡ Done value
+  accepted : start edition cards blocks .answer ≡ Done value
   events : List Event
-  says : Sayable (run (start cards blocks .after) events .now)
-  words-of : w ≡ words (run (start cards blocks .after) events .now)
-  log-of : log ≡ run (start cards blocks .after) events .log
+  says : Sayable (run (start edition cards blocks .after) events .now)
+  words-of : w ≡ words (run (start edition cards blocks .after) events .now)
+  log-of : log ≡ run (start edition cards blocks .after) events .log
 
 module _ {w : List ℕ} {log : List Did} (f : Follows w log) where
   now : Chassis
-  now = run (start (f .cards) (f .blocks) .after) (f .events) .now
+  now = run (start (f .edition) (f .cards) (f .blocks) .after) (f .events) .now
 
   is-formed : formed w ≡ true
   is-formed = ap formed (f .words-of) ∙ f .says .0
@@ -49,19 +51,21 @@ module _ {w : List ℕ} {log : List Did} (f : Follows w log) where
 
 follows : {w : List ℕ} {log : List Did} → Called w log → Follows w log
 unfolding now run
-follows (started cards blocks v h) = record {
+follows (started e cards blocks v h) = record {
+  edition = e;
   cards = cards;
   blocks = blocks;
   value = v;
   accepted = sym (h .answer);
   events = [];
-  says = start-says cards blocks v (sym (h .answer));
+  says = start-says e cards blocks v (sym (h .answer));
   words-of = h .after;
   log-of = refl;
 }
 follows (called e r k fits a) =
     let f = follows k in
     record {
+      edition = f .edition;
       cards = f .cards;
       blocks = f .blocks;
       value = f .value;
@@ -79,7 +83,7 @@ calls-coherent w log k =
     let f = follows k in
     let c : Coherent (record { now = view w; log = log })
     = subst Coherent (ap₂ (λ (x : Chassis) (l : List Did). record { now = x; log = l }) (sym (view-now f)) (sym (f .log-of)))
-    (rules-coherent (f .cards) (f .blocks) (f .value) (f .accepted) (f .events)) in
+    (rules-coherent (f .edition) (f .cards) (f .blocks) (f .value) (f .accepted) (f .events)) in
     record {
       coherent = c;
       never-13-or-15 = λ e r w′ a. (

@@ -8,7 +8,7 @@ use lib.Dec.{eqb, leb}
 use borrow.Author.Tests.{ltb-true, lt-ltb, le-leb, lt-leb}
 use Rattle.rules.specs.Tests.{any}
 use Rattle.rules.specs.Numbers.{mostCards, mostBlocks, home, room, lastNumber, putx}
-use Rattle.rules.specs.Table.{canGive, comesFrom, putStands}
+use Rattle.rules.specs.Table.{canGive, comesFrom, upgrades, putStands}
 use Rattle.rules.specs.Chassis.{Block, idle, cellOf, stateOf, unusedRequest}
 use Rattle.rules.specs.Formed.{homeOrCard, okRequest}
 use Rattle.rules.specs.Order.{held, impossible, noRoomFor, turn}
@@ -51,26 +51,28 @@ home-cell w b owner e h = ap (λ k. blockOf w b .cell k) (sym e) ∙ sym (ap (λ
 
 -- Impossible
 
-or-any : (a b c d e : Bool) → (a || b || c || d || e) ≡ any (a ∷ b ∷ c ∷ d ∷ e ∷ [])
+or-any : (a b c d e f : Bool) → (a || b || c || d || e || f) ≡ any (a ∷ b ∷ c ∷ d ∷ e ∷ f ∷ [])
 unfolding any
-or-any true b c d e = refl
-or-any false true c d e = refl
-or-any false false true d e = refl
-or-any false false false true e = refl
-or-any false false false false true = refl
-or-any false false false false false = refl
+or-any true b c d e f = refl
+or-any false true c d e f = refl
+or-any false false true d e f = refl
+or-any false false false true e f = refl
+or-any false false false false true f = refl
+or-any false false false false false true = refl
+or-any false false false false false false = refl
 
 -- the code's test, from what it read
-pub impossible-test : (h : Home) (asker owner : ℕ) (r : Request) (stands from can : Bool) → stands ≡ putStands asker
+pub impossible-test : (h : Home) (asker owner : ℕ) (r : Request) (stands up from can : Bool) → stands ≡ putStands asker → up ≡ upgrades asker
     → from ≡ comesFrom (r .kind) asker → can ≡ canGive owner
     → (B : Block) → HomeIs B h → B .cell (r .card) .state ≡ asker → B .cell (B .owner) .state ≡ owner
-    → (not from || not (eqb (r .kind) putx) && eqb (h .owner) (r .card)
+    → (not from || not (eqb (r .kind) putx) && not up && eqb (h .owner) (r .card)
+    || not (eqb (r .kind) putx) && up && not (eqb (h .owner) (r .card))
     || not (eqb (r .kind) putx) && not (eqb (h .owner) home) && not can
     || eqb (r .kind) putx && stands && not (eqb (h .owner) (r .card))
     || eqb (r .kind) putx && not stands && eqb (h .owner) (r .card)) ≡ impossible B r
 unfolding impossible
-impossible-test h asker owner r stands from can e₁ e₂ e₃ B is ea eo =
-    rw (e₁, e₂, e₃, ← is .owner, ← ea, ← eo) (or-any _ _ _ _ _)
+impossible-test h asker owner r stands up from can e₁ e₂ e₃ e₄ B is ea eo =
+    rw (e₁, e₂, e₃, e₄, ← is .owner, ← ea, ← eo) (or-any _ _ _ _ _ _)
 
 -- The head request
 
@@ -92,7 +94,7 @@ module _ (w : List ℕ) (f : formed w ≡ true) (some : 0 < waitingOf w) (r : Re
   head-block = let b = head-wf .block in let s = sizes w f .few-blocks in omega arith
 
   -- and so is its block
-  pub block-wf : BlockWf (view w .cards) (view w .last) (view w .block (r .block))
+  pub block-wf : BlockWf (view w .edition) (view w .cards) (view w .last) (view w .block (r .block))
   block-wf = wf w f .used (r .block) head-block (head-wf .block)
 
   -- home's part of the block, as it is read

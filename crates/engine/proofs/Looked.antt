@@ -8,6 +8,7 @@ use lib.Dec.{leb}
 use borrow.Author.Tests.{leb-false, le-leb, lt-leb}
 use native.Mathlib.Omega.{arith}
 use Rattle.rules.specs.Events.{noCard, noBlock, noMessage}
+use Rattle.rules.specs.declared.Edition.{Edition}
 use Rattle.rules.specs.declared.OrderNo.{OrderNo}
 use Rattle.rules.specs.declared.Home.{Home}
 use Rattle.rules.specs.declared.Cell.{Cell}
@@ -20,6 +21,7 @@ use Rattle.rules.proofs.Tests.{test}
 use Rattle.words.specs.Words.{
   view,
   formed,
+  editionOf,
   cardsOf,
   blocksOf,
   waitingOf,
@@ -48,6 +50,10 @@ module _ (w : List ℕ) where
   not-formed q f = rw f
 
   module _ (f : formed w ≡ true) where
+    edition-is : view w .edition ≡ editionOf w
+    unfolding view
+    edition-is = refl
+
     cards-is : view w .cards ≡ cardsOf w
     unfolding view
     cards-is = refl
@@ -60,12 +66,12 @@ module _ (w : List ℕ) where
     unfolding view
     last-is = refl
 
-    pub counts-seen : (cards blocks waiting pooled : ℕ) (last : OrderNo) → cards ≡ cardsOf w → blocks ≡ blocksOf w → waiting ≡ waitingOf w
+    pub counts-seen : (e : Edition) (cards blocks waiting pooled : ℕ) (last : OrderNo) → e ≡ editionOf w → cards ≡ cardsOf w → blocks ≡ blocksOf w → waiting ≡ waitingOf w
         → pooled ≡ pooledOf w → last ≡ lastOf w
-        → Seen.Counts (record { cards = cards; blocks = blocks; waiting = waiting; pooled = pooled; last = last }) ≡ looks w counts
+        → Seen.Counts (record { edition = e; cards = cards; blocks = blocks; waiting = waiting; pooled = pooled; last = last }) ≡ looks w counts
     unfolding looks unless
-    counts-seen cards blocks waiting pooled last e₁ e₂ e₃ e₄ e₅ =
-        rw (f, e₁, e₂, e₃, e₄, e₅, cards-is, blocks-is, waiting-is w, pooled-is w, last-is)
+    counts-seen e cards blocks waiting pooled last e₀ e₁ e₂ e₃ e₄ e₅ =
+        rw (f, e₀, e₁, e₂, e₃, e₄, e₅, edition-is, cards-is, blocks-is, waiting-is w, pooled-is w, last-is)
 
     module _ (i pooled : ℕ) (e : pooled ≡ pooledOf w) where
       pub no-message : pooled ≤ i → Seen.Refused NoSuchMessage ≡ looks w (message i)

@@ -7,7 +7,7 @@ use lib.Dec.{eqb, ltb}
 use borrow.Author.Tests.{eqb-true, ltb-true}
 use Rattle.rules.specs.Tests.{allOf}
 use Rattle.rules.specs.Lists.{All}
-use Rattle.rules.specs.Chassis.{Chassis, fresh}
+use Rattle.rules.specs.Chassis.{Chassis, noChassis}
 use Rattle.rules.specs.Answers.{refusalOf, valueOf, Result, result, refusedBy}
 use Rattle.rules.specs.Formed.{wellFormed}
 use Rattle.rules.specs.Events.{EventFits, step, start}
@@ -34,6 +34,8 @@ use Rattle.words.proofs.View.{formed-of}
 use Rattle.words.proofs.Keeps.{fresh-view, step-says}
 use Rattle.engine.specs.Promise.{Starts, Answers}
 use Rattle.engine.specs.Calls.{Comes, Marked-come}
+use Rattle.rules.specs.declared.Edition.{Edition}
+use Rattle.rules.specs.declared.Edition.the-variants.{Msi}
 
 -- words that say a chassis, formed or not
 abbrev Means : List ℕ → Chassis → Type 0
@@ -71,9 +73,9 @@ step-means w c m e f = test (wellFormed c)
     (λ h. step-says c e f (well w c m h, m .1) .1)
     (λ h. subst (λ (o : Result). view (words (o .after)) ≡ o .after) (sym (ill-step c e h)) (m .1))
 
-pub start-means : (cards blocks : ℕ) → view (words (start cards blocks .after)) ≡ start cards blocks .after
-start-means cards blocks = start-cases cards blocks (λ (o : Result). view (words (o .after)) ≡ o .after)
-    (λ _. fresh-view cards blocks) (λ _. fresh-view 0 0)
+pub start-means : (e : Edition) (cards blocks : ℕ) → view (words (start e cards blocks .after)) ≡ start e cards blocks .after
+start-means e cards blocks = start-cases e cards blocks (λ (o : Result). view (words (o .after)) ≡ o .after)
+    (λ _. fresh-view e cards blocks) (λ _. fresh-view Msi 0 0)
 
 -- what an event stores, or 0; and that what a line stores fits, a test that antt computes
 valueIn : Event → ℕ
@@ -90,7 +92,7 @@ low : Event → Bool
 low e = ltb (valueIn e) (2 ^ 32)
 
 lowLine : Line → Bool
-lowLine (starts cards blocks n) = true
+lowLine (starts e cards blocks n) = true
 lowLine (e gives v) = low e
 lowLine (e refused n) = low e
 lowLine (shows f) = true
@@ -126,10 +128,10 @@ event-comes ls w c m e f n v rest h r w′ a =
 comes : (ls : List Line) (w : List ℕ) (c : Chassis) → Means w c → allOf ls lowLine ≡ true → plays c ls ≡ true → Comes w ls
 unfolding plays allOf lowLine
 comes [] w c m l h = tt
-comes (starts cards blocks n ∷ ls) w c m l h = λ r w′ a.
-    let o = start cards blocks in
+comes (starts e cards blocks n ∷ ls) w c m l h = λ r w′ a.
+    let o = start e cards blocks in
     let p = told (refusalOf (o .answer)) n (valueOf (o .answer)) 0 (plays (o .after) ls) h in
-    (ap refusalOf (a .answer) ∙ p .0, ap valueOf (a .answer) ∙ p .1, comes ls w′ (o .after) (a .after, start-means cards blocks) l (p .2))
+    (ap refusalOf (a .answer) ∙ p .0, ap valueOf (a .answer) ∙ p .1, comes ls w′ (o .after) (a .after, start-means e cards blocks) l (p .2))
 comes (e gives v ∷ ls) w c m l h = event-comes ls w c m e (and-l (low e) (allOf ls lowLine) l) 0 v
     (λ w′ m′. comes ls w′ (step c e .after) m′ (and-r (low e) (allOf ls lowLine) l)) h
 comes (e refused n ∷ ls) w c m l h = event-comes ls w c m e (and-l (low e) (allOf ls lowLine) l) n 0
@@ -140,7 +142,7 @@ comes (shows f ∷ ls) w c m l h =
 -- a sequence that begins with Start comes out on any words
 begins : List Line → Bool
 begins [] = true
-begins (starts cards blocks n ∷ ls) = true
+begins (starts e cards blocks n ∷ ls) = true
 begins (e gives v ∷ ls) = false
 begins (e refused n ∷ ls) = false
 begins (shows f ∷ ls) = false
@@ -148,20 +150,20 @@ begins (shows f ∷ ls) = false
 on-any : (w v : List ℕ) (ls : List Line) → begins ls ≡ true → Comes v ls → Comes w ls
 unfolding begins
 on-any w v [] b h = tt
-on-any w v (starts cards blocks n ∷ ls) b h = h
+on-any w v (starts e cards blocks n ∷ ls) b h = h
 on-any w v (e gives x ∷ ls) b h = absurd (true≢false (sym b))
 on-any w v (e refused n ∷ ls) b h = absurd (true≢false (sym b))
 on-any w v (shows f ∷ ls) b h = absurd (true≢false (sym b))
 
-all-come : (w : List ℕ) (t : List (List Line)) → allOf t begins ≡ true → allOf t (λ ls. allOf ls lowLine) ≡ true → allOf t (plays (fresh 0 0)) ≡ true → All (Comes w) t
+all-come : (w : List ℕ) (t : List (List Line)) → allOf t begins ≡ true → allOf t (λ ls. allOf ls lowLine) ≡ true → allOf t (plays noChassis) ≡ true → All (Comes w) t
 unfolding allOf
 all-come w [] b l h = tt
 all-come w (ls ∷ t) b l h = (
-  on-any w (words (fresh 0 0)) ls (and-l (begins ls) (allOf t begins) b)
-      (comes ls (words (fresh 0 0)) (fresh 0 0) (refl, fresh-view 0 0) (and-l (allOf ls lowLine) (allOf t (λ ls. allOf ls lowLine)) l)
-      (and-l (plays (fresh 0 0) ls) (allOf t (plays (fresh 0 0))) h)),
+  on-any w (words noChassis) ls (and-l (begins ls) (allOf t begins) b)
+      (comes ls (words noChassis) noChassis (refl, fresh-view Msi 0 0) (and-l (allOf ls lowLine) (allOf t (λ ls. allOf ls lowLine)) l)
+      (and-l (plays noChassis ls) (allOf t (plays noChassis)) h)),
   all-come w t (and-r (begins ls) (allOf t begins) b) (and-r (allOf ls lowLine) (allOf t (λ ls. allOf ls lowLine)) l)
-      (and-r (plays (fresh 0 0) ls) (allOf t (plays (fresh 0 0))) h),
+      (and-r (plays noChassis ls) (allOf t (plays noChassis)) h),
 )
 
 pub marked-come : Marked-come

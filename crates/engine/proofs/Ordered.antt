@@ -32,6 +32,7 @@ use Rattle.rules.specs.Order.{
   noRoomFor,
   orderReasons,
   turn,
+  giver,
   given,
   upshotOf,
   sees,
@@ -53,7 +54,7 @@ use Rattle.rules.specs.declared.Turn.the-variants.{PutLapsed}
 use Rattle.rules.specs.declared.Event.the-variants.{Order}
 use Rattle.rules.proofs.Tests.{test}
 use Rattle.rules.proofs.Lists.{replace-same, replace-twice}
-use Rattle.rules.proofs.Upshots.{grant-no-put, cell-sees}
+use Rattle.rules.proofs.Upshots.{grant-no-put, In, turn-in, cell-sees}
 use Rattle.rules.proofs.Formed.{unused-idle}
 use Rattle.engine.specs.declared.judge.Judged.{Judged}
 use Rattle.engine.specs.declared.judge.Judged.the-variants.{No, Yes}
@@ -196,22 +197,29 @@ module _ (w : List ℕ) (f : formed w ≡ true) (some : 0 < waitingOf w) (r : Re
         (let i = idle-beyond k (ltb-false k (view w .cards) e) in
         let B = view w .block (r .block) in
         let x = B .cell k in
-        cell-sees (λ y. x ≡ y) t B r n k
+        cell-sees (view w .edition) (λ y. x ≡ y) t (subst (In (view w .edition)) (sym (decided .1)) (turn-in (view w) r)) B r n k
         (λ a. absurd (let q = head-wf w f some r at .card in let l = ltb-false k (view w .cards) e in omega arith))
-        refl (λ g col. i ∙ sym (idle-sees g col x i)))))
+        refl (λ g col. i ∙ sym (idle-sees (view w .edition) g col x i)))))
 
     module _ (h : Home) (is : (h .memory ≡ memoryAt w (r .block)) × (h .owner ≡ ownerAt w (r .block)) × (h .sharers ≡ sharersAt w (r .block)))
         (x : Cell) (ex : x ≡ cellAt w (r .card) (r .block)) (y : Cell) (ey : y ≡ view w .block (r .block) .cell (h .owner))
-        (g : ℕ) (eg : (B : Block) → HomeIs B h → B .cell (B .owner) ≡ y → g ≡ given B)
+        (s : ℕ) (es : (B : Block) → HomeIs B h → s ≡ giver B (r .card))
+        (g : ℕ) (eg : (B : Block) (q : ℕ) → HomeIs B h → B .cell (B .owner) ≡ y → s ≡ giver B q → g ≡ given B q)
         (n : OrderNo) (w₁ : List ℕ) (e₁ : Seen w t n r (h .owner) w₁ (λ c. c .cards))
-        (h′ : Home) (eh : (B : Block) → HomeIs B h → B .cell (r .card) .value ≡ x .value → given B ≡ g
+        (h′ : Home) (eh : (B : Block) → HomeIs B h → B .cell (r .card) ≡ x → B .cell (B .owner) ≡ y → given B (r .card) ≡ g
         → HomeAfter t B (r .card) h′)
         (w₂ : List ℕ) (e₂ : w₂ ≡ putHome w₁ (r .block) (h′ .memory) (h′ .owner) (h′ .sharers)) where
       read : HomeIs (view w .block (r .block)) h
       read = home-is w f some r at h is
 
-      gives : g ≡ given (view w .block (r .block))
-      gives = eg (view w .block (r .block)) read (owner-is w f some r at h is y ey)
+      owner-read : view w .block (r .block) .cell (view w .block (r .block) .owner) ≡ y
+      owner-read = owner-is w f some r at h is y ey
+
+      sends : s ≡ giver (view w .block (r .block)) (r .card)
+      sends = es (view w .block (r .block)) read
+
+      gives : g ≡ given (view w .block (r .block)) (r .card)
+      gives = eg (view w .block (r .block)) (r .card) read owner-read sends
 
       -- the block after the cards' parts and home's
       block-words : w₂ ≡ words (blockChanged (view w) (r .block) (ordered t (view w .block (r .block)) r n))
@@ -222,7 +230,7 @@ module _ (w : List ℕ) (f : formed w ≡ true) (some : 0 < waitingOf w) (r : Re
           let B = c .block b in
           let B₁ = seenBelow (c .cards) t B r n in
           let c₁ = blockChanged c b B₁ in
-          let now = eh B read (ap (λ (z : Cell). z .value) (asker-is w f some r at x ex)) (sym gives) in
+          let now = eh B read (asker-is w f some r at x ex) owner-read (sym gives) in
           e₂ ∙ home-words c₁ w₁ (e₁ c (formed-words w f) cells-fit (read .owner)) b _ _ _ (head-block w f some r at)
           ∙ ap (λ (C : Block). words (blockChanged c₁ b (withHome C (h′ .memory) (h′ .owner) (h′ .sharers)))) (replace-same (c .block) b B₁)
           ∙ ap (λ (g : ℕ → Block). words (blocksChanged c g)) (replace-twice (c .block) b B₁ (withHome B₁ (h′ .memory) (h′ .owner) (h′ .sharers)))
@@ -242,11 +250,11 @@ module _ (w : List ℕ) (f : formed w ≡ true) (some : 0 < waitingOf w) (r : Re
 
       -- the message that a grant puts in the pool
       abbrev message : Message
-      message = aMessage (h .owner) (r .card) (r .block) g n
+      message = aMessage s (r .card) (r .block) g n
 
       data-is : dataFor (view w .block (r .block)) r n ≡ message
       unfolding dataFor
-      data-is = rw (read .owner, gives)
+      data-is = rw (sends, gives)
 
       module _ (w₃ : List ℕ) (e₃ : (c : Chassis) (B : Block) → w₂ ≡ words c → ((r : Request) (n : OrderNo) → dataFor B r n ≡ message
           → w₃ ≡ words (poolChanged c (c .pool ++ upshotOf t .sent B r n)))) where

@@ -4,16 +4,18 @@ use mathlib.Core.Bool.{true, false}
 use mathlib.Core.List.{List}
 use mathlib.Core.Path.{_≡_}
 use lib.ListN.{set}
-use Rattle.rules.specs.Chassis.{fresh}
+use Rattle.rules.specs.Numbers.{editionNo}
+use Rattle.rules.specs.Chassis.{noChassis}
 use Rattle.rules.specs.Answers.{refusedBy}
 use Rattle.rules.specs.Formed.{sizes}
 use Rattle.rules.specs.Events.{start}
+use Rattle.rules.specs.declared.Edition.{Edition}
 use Rattle.rules.specs.declared.Answer.{Answer}
 use Rattle.rules.specs.declared.Answer.the-variants.{Done, Refused}
 use Rattle.rules.specs.declared.Refusal.the-variants.{NoSuchSize, IllFormed}
 use Rattle.rules.specs.declared.Event.{Event}
 use Rattle.rules.proofs.Unique.{one-answer}
-use Rattle.words.specs.Layout.{cardsAt, blocksAt}
+use Rattle.words.specs.Layout.{editionAt, cardsAt, blocksAt}
 use Rattle.words.specs.Words.{words, view, formed}
 use Rattle.words.specs.Inner.Parts.{Does}
 use Rattle.words.proofs.View.{formed-chassis}
@@ -23,15 +25,15 @@ use Rattle.engine.specs.Promise.{Answers, Starts, Starts-unique, Answers
 
 -- Start, on the words of an empty chassis
 
-pub not-started : (cards blocks : ℕ) → sizes cards blocks ≡ false → (w : List ℕ) → w ≡ words (fresh 0 0)
-    → Starts cards blocks (Refused NoSuchSize) w
+pub not-started : (e : Edition) (cards blocks : ℕ) → sizes cards blocks ≡ false → (w : List ℕ) → w ≡ words noChassis
+    → Starts e cards blocks (Refused NoSuchSize) w
 unfolding start refusedBy
-not-started cards blocks t w e = record { answer = rw t; after = rw t e }
+not-started e cards blocks t w is = record { answer = rw t; after = rw t is }
 
-pub started : (cards blocks : ℕ) → sizes cards blocks ≡ true → (w w₁ w₂ : List ℕ) → w ≡ words (fresh 0 0)
-    → w₁ ≡ set w cardsAt cards → w₂ ≡ set w₁ blocksAt blocks → Starts cards blocks (Done 0) w₂
+pub started : (e : Edition) (cards blocks : ℕ) → sizes cards blocks ≡ true → (w w₁ w₂ w₃ : List ℕ) → w ≡ words noChassis
+    → w₁ ≡ set w editionAt (editionNo e) → w₂ ≡ set w₁ cardsAt cards → w₃ ≡ set w₂ blocksAt blocks → Starts e cards blocks (Done 0) w₃
 unfolding start refusedBy
-started cards blocks t w w₁ w₂ e e₁ e₂ = record { answer = rw t; after = rw t (counted cards blocks w w₁ w₂ e e₁ e₂) }
+started e cards blocks t w w₁ w₂ w₃ is e₁ e₂ e₃ = record { answer = rw t; after = rw t (counted e cards blocks w w₁ w₂ w₃ is e₁ e₂ e₃) }
 
 -- An event
 
@@ -47,7 +49,7 @@ answers-ill-formed w e f = record { answer = rw f; after = rw f }
 -- Nothing second
 
 pub starts-unique : Starts-unique
-starts-unique cards blocks r r′ w₁ w₂ a b = (one-answer _ _ r r′ (a .answer) (b .answer), one-answer _ _ w₁ w₂ (a .after) (b .after))
+starts-unique e cards blocks r r′ w₁ w₂ a b = (one-answer _ _ r r′ (a .answer) (b .answer), one-answer _ _ w₁ w₂ (a .after) (b .after))
 
 pub answers-unique : Answers-unique
 answers-unique w e r r′ w₁ w₂ a b = (one-answer _ _ r r′ (a .answer) (b .answer), one-answer _ _ w₁ w₂ (a .after) (b .after))

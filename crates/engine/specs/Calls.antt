@@ -10,6 +10,7 @@ use Rattle.rules.specs.Events.{EventFits}
 use Rattle.rules.specs.History.{Did, did}
 use Rattle.rules.specs.Demand.{Coherent}
 use Rattle.rules.specs.Marked.{Line, starts, _gives_, _refused_, shows, markedTable}
+use Rattle.rules.specs.declared.Edition.{Edition}
 use Rattle.rules.specs.declared.Answer.{Answer}
 use Rattle.rules.specs.declared.Answer.the-variants.{Done, Refused}
 use Rattle.rules.specs.declared.Refusal.the-variants.{Impossible, IllFormed}
@@ -21,7 +22,7 @@ use Rattle.engine.specs.Promise.{Answers, Starts}
 
 -- calls in a row, each on the words that the one before left; the log is of what they answered themselves, newest first
 pub data Called : List ℕ → List Did → Type 0 where
-  started : {w : List ℕ} (cards blocks v : ℕ) → Starts cards blocks (Done v) w → Called w []
+  started : {w : List ℕ} (e : Edition) (cards blocks v : ℕ) → Starts e cards blocks (Done v) w → Called w []
   called : {w w′ : List ℕ} {log : List Did} (e : Event) (r : Answer)
       → Called w log → EventFits e → Answers w e r w′ → Called w′ (did (view w) e r ∷ log)
 
@@ -38,11 +39,11 @@ Calls-coherent = (w : List ℕ) (log : List Did) → Called w log → CallsCoher
 
 abbrev pub Comes : List ℕ → List Line → Type 0
 Comes w [] = Unit {0}
-Comes w (starts cards blocks n ∷ ls) = (r : Answer) (w′ : List ℕ) → Starts cards blocks r w′ → (refusalOf r ≡ n) × (valueOf r ≡ 0) × Comes w′ ls
+Comes w (starts e cards blocks n ∷ ls) = (r : Answer) (w′ : List ℕ) → Starts e cards blocks r w′ → (refusalOf r ≡ n) × (valueOf r ≡ 0) × Comes w′ ls
 Comes w (e gives v ∷ ls) = (r : Answer) (w′ : List ℕ) → Answers w e r w′ → (refusalOf r ≡ 0) × (valueOf r ≡ v) × Comes w′ ls
 Comes w (e refused n ∷ ls) = (r : Answer) (w′ : List ℕ) → Answers w e r w′ → (refusalOf r ≡ n) × (valueOf r ≡ 0) × Comes w′ ls
 Comes w (shows f ∷ ls) = (f (view w) ≡ true) × Comes w ls
 
--- M1 to M10, on any words
+-- the marked sequences, on any words
 abbrev pub Marked-come : Type 0
 Marked-come = (w : List ℕ) → All (Comes w) markedTable

@@ -14,7 +14,7 @@ use Rattle.engine.specs.declared.Counts.{Counts}
 use Rattle.engine.specs.declared.Seen.{Seen}
 use Rattle.engine.specs.declared.Seen.the-variants as Seen
 
--- the counts; a message of the pool and a request of the line, by position; a card's cell; home's part of a block
+-- the edition and the counts; a message of the pool and a request of the line, by position; a card's cell; home's part of a block
 pub data Look : Type 0 where
   counts : Look
   message request : ℕ → Look
@@ -30,7 +30,14 @@ lookReasons c (cell k b) = noCard c k ∷ noBlock c b ∷ []
 lookReasons c (home b) = noBlock c b ∷ []
 
 abbrev pub countsOf : Chassis → Counts
-countsOf c = record { cards = c .cards; blocks = c .blocks; waiting = length (c .line); pooled = length (c .pool); last = c .last }
+countsOf c = record {
+  edition = c .edition;
+  cards = c .cards;
+  blocks = c .blocks;
+  waiting = length (c .line);
+  pooled = length (c .pool);
+  last = c .last;
+}
 
 abbrev pub homeOf : Block → Home
 homeOf B = record { memory = B .memory; owner = B .owner; sharers = B .sharers }

@@ -4,6 +4,7 @@ use crate::places::home_place;
 use crate::places::message_place;
 use crate::places::request_place;
 use rules::Cell;
+use rules::Edition;
 use rules::Home;
 use rules::Mask;
 use rules::Message;
@@ -11,9 +12,12 @@ use rules::OrderNo;
 use rules::Request;
 use rules::RetryNo;
 use rules::numbers::I;
+use rules::numbers::MSI_STATES;
+use rules::numbers::STATES;
 use words::layout::BLOCKS_AT;
 use words::layout::CARDS_AT;
 use words::layout::CELL_WORDS;
+use words::layout::EDITION_AT;
 use words::layout::HOME_WORDS;
 use words::layout::LAST_AT;
 use words::layout::PLACE_WORDS;
@@ -24,10 +28,11 @@ ghost use mathlib.Core.Path.{_≡_};
 ghost use lib.ListN.{length, getD, set};
 ghost use lib.Seq.{sets};
 ghost use Prim.Native.Nat.{_+_, _≤_, _<_};
-ghost use Rattle.rules.specs.Numbers.{mostCards, mostBlocks, room};
+ghost use Rattle.rules.specs.Numbers.{mostCards, mostBlocks, room, editionNo, statesIn};
 ghost use Rattle.rules.specs.Chassis.{idle};
-ghost use Rattle.words.specs.Layout.{cardsAt, blocksAt, waitingAt, pooledAt, lastAt, allWords};
+ghost use Rattle.words.specs.Layout.{editionAt, cardsAt, blocksAt, waitingAt, pooledAt, lastAt, allWords};
 ghost use Rattle.words.specs.Words.{
+  editionOf,
   cardsOf,
   blocksOf,
   waitingOf,
@@ -56,7 +61,31 @@ const MASKS: u64 = 256;
 
 const VALUES: u64 = 4294967296;
 
+// The word of MSI and that of MOSI.
+const MSI: u64 = 0;
+
+pub(crate) const MOSI: u64 = 1;
+
 // The header
+
+pub(crate) fn edition(s: &[u64; WORDS]) -> Edition
+    ensures { λ r. ⌜ r ≡ editionOf (now (s .entry)) ⌝ }
+{
+    if s[EDITION_AT] == MSI {
+        return Edition::Msi;
+    }
+    Edition::Mosi
+}
+
+// How many states a cell may be in.
+pub(crate) fn states(s: &[u64; WORDS]) -> usize
+    ensures { λ r. ⌜ r ≡ statesIn (editionOf (now (s .entry))) ⌝ }
+{
+    match edition(s) {
+        Edition::Msi => MSI_STATES,
+        Edition::Mosi => STATES,
+    }
+}
 
 pub(crate) fn cards(s: &[u64; WORDS]) -> u64
     ensures { λ r. ⌜ r ≡ cardsOf (now (s .entry)) ⌝ }
@@ -231,6 +260,15 @@ pub(crate) fn message_row(m: Message) -> [u64; PLACE_WORDS]
 }
 
 // Stores: each writes the words of what it names, and no other.
+
+pub(crate) fn set_edition(s: &mut [u64; WORDS], edition: Edition)
+    ensures { λ _. ⌜ now (s .exit) ≡ set (now (s .entry)) editionAt (editionNo edition) ⌝ }
+{
+    match edition {
+        Edition::Msi => s[EDITION_AT] = MSI,
+        Edition::Mosi => s[EDITION_AT] = MOSI,
+    }
+}
 
 pub(crate) fn set_cards(s: &mut [u64; WORDS], n: u64)
     ensures { λ _. ⌜ now (s .exit) ≡ set (now (s .entry)) cardsAt n ⌝ }

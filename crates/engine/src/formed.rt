@@ -1,4 +1,5 @@
 // Refusal 15: whether words are those of a well formed chassis, tested item by item.
+use crate::fields::MOSI;
 use crate::fields::blocks;
 use crate::fields::cards;
 use crate::fields::cell_at;
@@ -11,7 +12,9 @@ use crate::fields::message_row;
 use crate::fields::pooled;
 use crate::fields::request_at;
 use crate::fields::request_row;
+use crate::fields::states;
 use crate::fields::waiting;
+use crate::fields::word_at;
 use crate::masks::every;
 use crate::masks::inside;
 use crate::places::cell_place;
@@ -30,9 +33,9 @@ use rules::numbers::MOST_BLOCKS;
 use rules::numbers::MOST_CARDS;
 use rules::numbers::PUTX;
 use rules::numbers::ROOM;
-use rules::numbers::STATES;
 use rules::table::loads;
 use rules::table::waits;
+use words::layout::EDITION_AT;
 use words::layout::WORDS;
 ghost use mathlib.Core.Path.{_≡_};
 ghost use mathlib.Core.Bool.{_&&_};
@@ -40,7 +43,8 @@ ghost use Prim.Native.Nat.{_+_, _≤_, _<_};
 ghost use lib.ListN.{length};
 ghost use Rattle.rules.specs.Tests.{all};
 ghost use Rattle.rules.specs.Masks.{inside};
-ghost use Rattle.rules.specs.Numbers.{mostCards, mostBlocks, room};
+ghost use Rattle.rules.specs.Numbers.{mostCards, mostBlocks, room, statesIn};
+ghost use Rattle.rules.specs.declared.Edition.{Edition};
 ghost use Rattle.rules.specs.Formed.{sizes, homeOrCard, okCell, okRequest, okMessage};
 ghost use Rattle.words.specs.Layout.{allWords};
 ghost use Rattle.words.specs.Words.{cardsOf, formed};
@@ -88,14 +92,14 @@ fn home_or_card(k: u8, cards: u64) -> bool
     (k == HOME) | ((k as u64) < cards)
 }
 
-// A cell of a card that is there.
-fn ok_cell(x: Cell, last: OrderNo) -> bool
-    ensures { λ r. ⌜ r ≡ okCell last x ⌝ }
+// A cell of a card that is there, in a chassis of so many states.
+fn ok_cell(x: Cell, states: usize, last: OrderNo) -> bool
+    ensures { λ r. ⌜ ((e : Edition) → states ≡ statesIn e → r ≡ okCell e last x) ⌝ }
 {
     let n = x.awaits;
     let w = waits(x.state);
     let l = loads(x.state);
-    ((x.state as usize) < STATES)
+    ((x.state as usize) < states)
         & (n.0 <= last.0)
         & (!w | (n.0 != 0))
         & (w | (n.0 == 0))
@@ -142,7 +146,10 @@ fn ok_message(m: Message, cards: u64, blocks: u64, last: OrderNo) -> bool
 fn head_formed(s: &[u64; WORDS]) -> bool
     ensures { λ r. ⌜ r ≡ headTest (now (s .entry)) ⌝ }
 {
-    are_sizes(cards(s), blocks(s)) & (waiting(s) <= ROOM as u64) & (pooled(s) <= ROOM as u64)
+    (word_at(s, EDITION_AT) <= MOSI)
+        & are_sizes(cards(s), blocks(s))
+        & (waiting(s) <= ROOM as u64)
+        & (pooled(s) <= ROOM as u64)
 }
 
 // A cell, where so many cards have one: its words are those of what is read, and that is well formed; or they are those of an idle cell.
@@ -153,7 +160,7 @@ fn cell_formed(s: &[u64; WORDS], card: u8, block: u8, cards: u64) -> bool
     let p = cell_place(card, block);
     if (card as u64) < cards {
         let x = cell_at(s, card, block);
-        return row_is(s, p, &cell_row(x)) & ok_cell(x, last(s));
+        return row_is(s, p, &cell_row(x)) & ok_cell(x, states(s), last(s));
     }
     row_is(s, p, &[0, 0, 0])
 }

@@ -1,6 +1,7 @@
 // What is decided of the request at the head: the first reason to refuse it, or its turn. Nothing is stored here.
 use crate::fields::cards;
 use crate::fields::cell_at;
+use crate::fields::edition;
 use crate::fields::home_at;
 use crate::fields::idle;
 use crate::fields::last;
@@ -106,8 +107,10 @@ fn impossible(home: Home, asker: u8, owner_state: u8, request: Request) -> bool
     let is_put = request.kind == PUTX;
     let owns = owner == request.card;
     let stands = table::put_stands(asker);
+    let upgrades = table::upgrades(asker);
     !table::comes_from(request.kind, asker)
-        | (!is_put & owns)
+        | (!is_put & !upgrades & owns)
+        | (!is_put & upgrades & !owns)
         | (!is_put & !(owner == HOME) & !table::can_give(owner_state))
         | (is_put & stands & !owns)
         | (is_put & !stands & owns)
@@ -128,7 +131,7 @@ fn turn_of(s: &[u64; WORDS], home: Home, asker: u8, request: Request) -> Turn
     let gets = request.kind == GETS;
     if suffices(cards(s), home, request) {
         if gets {
-            Turn::GetsGranted
+            Turn::GetsGranted(edition(s))
         } else {
             Turn::GetxGranted
         }

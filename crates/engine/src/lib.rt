@@ -19,14 +19,16 @@ pub mod start;
 mod turns;
 
 use rules::Cell;
+use rules::Edition;
 use rules::Home;
 use rules::Message;
 use rules::OrderNo;
 use rules::Refusal;
 use rules::Request;
 
-// How much there is in a chassis, and the last order number given.
+// The edition of a chassis, how much there is in it, and the last order number given.
 pub struct Counts {
+    pub edition: Edition,
     pub cards: u64,
     pub blocks: u64,
     pub waiting: u64,

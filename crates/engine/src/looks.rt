@@ -5,6 +5,7 @@ use crate::cells::Sought;
 use crate::cells::find;
 use crate::fields::blocks;
 use crate::fields::cards;
+use crate::fields::edition;
 use crate::fields::home_at;
 use crate::fields::last;
 use crate::fields::message_at;
@@ -27,6 +28,7 @@ pub fn counts(state: &[u64; WORDS]) -> Seen
     }
     let last = last(state);
     Seen::Counts(Counts {
+        edition: edition(state),
         cards: cards(state),
         blocks: blocks(state),
         waiting: waiting(state),

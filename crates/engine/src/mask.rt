@@ -21,7 +21,7 @@ pub(crate) fn suffices(cards: u64, home: Home, request: Request) -> bool
     requires { ⌜ (cards ≤ mostCards) × (request .card < mostCards) × (homeOrCard mostCards (home .owner) ≡ true) ⌝ }
     ensures { λ r. ⌜ ((B : Block) → HomeIs B home → r ≡ suffices cards B request) ⌝ }
 {
-    if !owner_named(home.owner, request.mask) {
+    if !owner_named(home.owner, request) {
         return false;
     }
     if request.kind == GETS {
@@ -30,15 +30,15 @@ pub(crate) fn suffices(cards: u64, home: Home, request: Request) -> bool
     sharers_named(cards, home.sharers, request)
 }
 
-// The owner is home or in the mask.
-fn owner_named(owner: u8, mask: Mask) -> bool
+// The owner is home, the asker itself or in the mask.
+fn owner_named(owner: u8, request: Request) -> bool
     requires { ⌜ homeOrCard mostCards owner ≡ true ⌝ }
-    ensures { λ r. ⌜ r ≡ (eqb owner home || has mask owner) ⌝ }
+    ensures { λ r. ⌜ r ≡ (eqb owner home || eqb owner (request .card) || has (request .mask) owner) ⌝ }
 {
-    if owner == HOME {
+    if (owner == HOME) | (owner == request.card) {
         return true;
     }
-    has(mask, owner)
+    has(request.mask, owner)
 }
 
 // The cards are walked one by one.

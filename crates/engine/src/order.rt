@@ -11,6 +11,7 @@ use crate::judge::judge;
 use crate::judge::owner_cell;
 use crate::sees::cards_see;
 use crate::turns::given;
+use crate::turns::giver;
 use crate::turns::home_after;
 use crate::turns::line_after;
 use crate::turns::outcome_no;
@@ -58,11 +59,13 @@ fn take_turn(s: &mut [u64; WORDS], request: Request, turn: Turn) -> Answer
     let asker = request.card;
     let home = home_at(s, block);
     let put = cell_at(s, asker, block);
-    let gives = given(home, owner_cell(s, block, home.owner));
+    let owner = owner_cell(s, block, home.owner);
+    let sender = giver(home, asker);
+    let gives = given(home, sender, owner);
     cards_see(s, turn, number, request, home.owner);
-    put_home(s, block, home_after(turn, home, asker, put.value, gives));
+    put_home(s, block, home_after(turn, home, asker, put, owner, gives));
     let message = Message {
-        sender: home.owner,
+        sender,
         receiver: asker,
         block,
         value: gives,

@@ -39,7 +39,9 @@ fn owner_sees(turn: Turn, cell: Cell) -> Cell
     ensures { λ r. ⌜ r ≡ upshotOf turn .ownerSees cell ⌝ }
 {
     match turn {
-        Turn::GetsGranted => goes_for(OrderNo(0), table::sees_gets(cell.state), cell),
+        Turn::GetsGranted(edition) => {
+            goes_for(OrderNo(0), table::sees_gets(edition, cell.state), cell)
+        }
         Turn::GetxGranted => goes_for(OrderNo(0), table::sees_getx(cell.state), cell),
         Turn::GetsMissed | Turn::GetxMissed | Turn::PutTaken | Turn::PutLapsed => cell,
     }
@@ -57,7 +59,7 @@ fn reader_sees(turn: Turn, cell: Cell) -> Cell
                 cell
             }
         }
-        Turn::GetsGranted | Turn::GetsMissed | Turn::PutTaken | Turn::PutLapsed => cell,
+        Turn::GetsGranted(_) | Turn::GetsMissed | Turn::PutTaken | Turn::PutLapsed => cell,
     }
 }
 

@@ -7,6 +7,7 @@ use crate::masks::every;
 use crate::masks::only;
 use crate::masks::union;
 use rules::Cell;
+use rules::Edition;
 use rules::Home;
 use rules::Mask;
 use rules::Message;
@@ -19,17 +20,20 @@ use rules::numbers::LAST_RETRY;
 use rules::numbers::PUT_LAPSED;
 use rules::numbers::PUT_TAKEN;
 use rules::numbers::TOO_SMALL;
+use rules::table;
 use words::layout::WORDS;
 ghost use mathlib.Core.Path.{_≡_};
 ghost use mathlib.Core.Bool.{true};
 ghost use mathlib.Core.List.{_++_};
-ghost use Prim.Native.Nat.{_≤_, _<_};
+ghost use Prim.Native.Nat.{ℕ, _≤_, _<_};
 ghost use Rattle.rules.specs.Lists.{removed};
 ghost use Rattle.rules.specs.Numbers.{mostCards, room, lastRetry, granted};
 ghost use Rattle.rules.specs.Chassis.{Block, Chassis, lineChanged, poolChanged};
 ghost use Rattle.rules.specs.Formed.{homeOrCard};
-ghost use Rattle.rules.specs.Order.{given, sharersWith, upshotOf, dataFor, retryMask, retried};
+ghost use Rattle.rules.specs.Order.{giver, given, keeps, sharersWith, upshotOf, dataFor, retryMask, retried};
+ghost use Rattle.rules.specs.declared.Edition.{Edition};
 ghost use Rattle.rules.specs.declared.OrderNo.{OrderNo};
+ghost use Rattle.rules.specs.declared.Turn.the-variants.{GetsGranted, PutTaken};
 ghost use Rattle.words.specs.Words.{words, cardsOf, waitingOf, pooledOf};
 ghost use Rattle.words.specs.Inner.Parts.{HomeIs, HomeAfter};
 
@@ -40,7 +44,7 @@ pub(crate) fn outcome_no(turn: Turn) -> u32
     ensures { λ r. ⌜ r ≡ upshotOf turn .outcome ⌝ }
 {
     match turn {
-        Turn::GetsGranted | Turn::GetxGranted => GRANTED,
+        Turn::GetsGranted(_) | Turn::GetxGranted => GRANTED,
         Turn::GetsMissed | Turn::GetxMissed => TOO_SMALL,
         Turn::PutTaken => PUT_TAKEN,
         Turn::PutLapsed => PUT_LAPSED,
@@ -49,51 +53,100 @@ pub(crate) fn outcome_no(turn: Turn) -> u32
 
 // Home's part
 
-// What an owning card gives away, or else memory's value.
-pub(crate) fn given(home: Home, owner: Cell) -> u32
-    ensures { λ r. ⌜ ((B : Block) → HomeIs B home → B .cell (B .owner) ≡ owner → r ≡ given B) ⌝ }
+// Who gives the data: the owner; home, where the owner is the asker itself.
+pub(crate) fn giver(home: Home, asker: u8) -> u8
+    ensures { λ r. ⌜ ((B : Block) → HomeIs B home → r ≡ giver B asker) ⌝ }
 {
-    if home.owner == HOME {
+    if home.owner == asker {
+        return HOME;
+    }
+    home.owner
+}
+
+// What an owning card gives away, or else memory's value.
+pub(crate) fn given(home: Home, sender: u8, owner: Cell) -> u32
+    ensures { λ r. ⌜ ((B : Block) (q : ℕ) → HomeIs B home → B .cell (B .owner) ≡ owner → «sender» ≡ giver B q → r ≡ given B q) ⌝ }
+{
+    if sender == HOME {
         home.memory
     } else {
         owner.value
     }
 }
 
-// The sharers after a GETS that is granted: a card that owned, or else those there were, and the asker.
-fn sharers_with(home: Home, asker: u8) -> Mask
+// The sharers after a GETS that is granted: those there were, where home owned or the owner stays, or else the owner; and the asker.
+fn sharers_with(home: Home, stays: bool, asker: u8) -> Mask
     requires { ⌜ (asker < mostCards) × (homeOrCard mostCards (home .owner) ≡ true) ⌝ }
-    ensures { λ r. ⌜ ((B : Block) → HomeIs B home → r ≡ sharersWith B asker) ⌝ }
+    ensures { λ r. ⌜ ((B : Block) (e : Edition) → HomeIs B home → stays ≡ keeps e B → r ≡ sharersWith e B asker) ⌝ }
 {
-    if home.owner == HOME {
+    if (home.owner == HOME) | stays {
         union(home.sharers, only(asker))
     } else {
         union(only(home.owner), only(asker))
     }
 }
 
-// Home's part after the turn of the card `asker`, whose value is `put`, where `gives` is what is given away.
-pub(crate) fn home_after(turn: Turn, home: Home, asker: u8, put: u32, gives: u32) -> Home
+// Home's part after a GETS that is granted: an owner that can still give keeps the block.
+fn home_after_gets(edition: Edition, home: Home, asker: u8, owner: Cell, gives: u32) -> Home
     requires { ⌜ (asker < mostCards) × (homeOrCard mostCards (home .owner) ≡ true) ⌝ }
-    ensures { λ r. ⌜ ((B : Block) → HomeIs B home → B .cell asker .value ≡ put → given B ≡ gives
+    ensures { λ r. ⌜ ((B : Block) → HomeIs B home → B .cell (B .owner) ≡ owner → given B asker ≡ gives
+        → HomeAfter (GetsGranted edition) B asker r) ⌝ }
+{
+    let stays = table::can_give(table::sees_gets(edition, owner.state));
+    let sharers = sharers_with(home, stays, asker);
+    if stays {
+        return Home {
+            memory: gives,
+            owner: home.owner,
+            sharers,
+        };
+    }
+    Home {
+        memory: gives,
+        owner: HOME,
+        sharers,
+    }
+}
+
+// Home's part after a put that is taken.
+fn home_after_put(home: Home, put: Cell) -> Home
+    ensures { λ r. ⌜ ((B : Block) (q : ℕ) → HomeIs B home → B .cell q ≡ put → HomeAfter PutTaken B q r) ⌝ }
+{
+    if table::leaves_sharers(put.state) {
+        return Home {
+            memory: put.value,
+            owner: HOME,
+            sharers: home.sharers,
+        };
+    }
+    Home {
+        memory: put.value,
+        owner: HOME,
+        sharers: 0,
+    }
+}
+
+// Home's part after the turn of the card `asker`, whose cell is `put`, where `gives` is what is given away.
+pub(crate) fn home_after(
+    turn: Turn,
+    home: Home,
+    asker: u8,
+    put: Cell,
+    owner: Cell,
+    gives: u32,
+) -> Home
+    requires { ⌜ (asker < mostCards) × (homeOrCard mostCards (home .owner) ≡ true) ⌝ }
+    ensures { λ r. ⌜ ((B : Block) → HomeIs B home → B .cell asker ≡ put → B .cell (B .owner) ≡ owner → given B asker ≡ gives
         → HomeAfter turn B asker r) ⌝ }
 {
     match turn {
-        Turn::GetsGranted => Home {
-            memory: gives,
-            owner: HOME,
-            sharers: sharers_with(home, asker),
-        },
+        Turn::GetsGranted(edition) => home_after_gets(edition, home, asker, owner, gives),
         Turn::GetxGranted => Home {
             memory: gives,
             owner: asker,
             sharers: 0,
         },
-        Turn::PutTaken => Home {
-            memory: put,
-            owner: HOME,
-            sharers: 0,
-        },
+        Turn::PutTaken => home_after_put(home, put),
         Turn::GetsMissed | Turn::GetxMissed | Turn::PutLapsed => home,
     }
 }

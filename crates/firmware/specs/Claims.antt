@@ -2,22 +2,31 @@
 use Prim.Native.Nat.{ℕ, _/_, _%_, _<_}
 use mathlib.Core.List.{List}
 use mathlib.Core.Path.{_≡_}
+use mathlib.Core.Logic.{_≢_}
 use lib.ListN.{length, getD}
-use Rattle.rules.specs.Answers.{refusalOf, valueOf}
+use Rattle.rules.specs.Numbers.{editionNo}
+use Rattle.rules.specs.Chassis.{noChassis}
+use Rattle.rules.specs.Answers.{refusalOf, valueOf, result}
+use Rattle.rules.specs.Events.{start}
+use Rattle.rules.specs.declared.Edition.{Edition}
 use Rattle.rules.specs.declared.Answer.{Answer}
+use Rattle.rules.specs.declared.Answer.the-variants.{Refused}
+use Rattle.rules.specs.declared.Refusal.the-variants.{NoSuchSize}
 use Rattle.rules.specs.declared.Event.{Event}
 use Rattle.journal.specs.Text.{mostLine}
 use Rattle.journal.specs.declared.Record.{Record}
 use Rattle.words.specs.Layout.{allWords}
-use Rattle.engine.specs.Promise.{Starts, Answers}
+use Rattle.engine.specs.Promise.{Answers}
 use Rattle.engine.specs.Looking.{Look}
+use Rattle.engine.specs.declared.Seen.{Seen}
 use Rattle.engine.specs.declared.run.Reached.{Reached}
 use Rattle.engine.specs.declared.run.Ran.the-variants.{More}
 use Rattle.firmware.specs.Halves.{half, oneNumber, Says}
+use Rattle.firmware.specs.Editions.{startByte, StartsByte}
 use Rattle.firmware.specs.Fields.{fields, named}
 use Rattle.firmware.specs.Journals.{standingAfter, Reads, Writes, RunSays}
-use Rattle.firmware.specs.Looks.{Shows}
-use Rattle.firmware.specs.Sizes.{headerWords, headerFields, headerStanding, headerLine}
+use Rattle.firmware.specs.Looks.{seenAfter, Shows}
+use Rattle.firmware.specs.Sizes.{headerWords, headerFields, headerStanding, headerSeen, headerLine}
 use Rattle.firmware.specs.declared.Named.{Named}
 use Rattle.firmware.specs.declared.Named.the-variants.{One}
 
@@ -29,8 +38,13 @@ Halves-tell = (r : Answer) → valueOf r < half → (oneNumber r / half ≡ refu
 
 -- and so it is
 pub record Values-fit : Type 0 where
-  pub start : (cards blocks : ℕ) (r : Answer) (w′ : List ℕ) → Starts cards blocks r w′ → valueOf r < half
+  pub start : (e cards blocks : ℕ) (r : Answer) (w′ : List ℕ) → StartsByte e cards blocks r w′ → valueOf r < half
   pub event : (w : List ℕ) (e : Event) (r : Answer) (w′ : List ℕ) → Answers w e r w′ → valueOf r < half
+
+-- a byte that is an edition's number starts a chassis of it; any other is 14, and makes none
+pub record Byte-starts : Type 0 where
+  pub edition : (i : Edition) (cards blocks : ℕ) → startByte (editionNo i) cards blocks ≡ start i cards blocks
+  pub no-edition : (e cards blocks : ℕ) → ((i : Edition) → e ≢ editionNo i) → startByte e cards blocks ≡ result (Refused NoSuchSize) noChassis
 
 -- the numbers of a record name it again, each in its place
 abbrev pub Fields-name : Type 0
@@ -42,12 +56,13 @@ pub record Sizes-hold : Type 0 where
   pub all-words : allWords ≡ headerWords
   pub all-fields : (r : Record) → length (fields r) ≡ headerFields
   pub all-standing : (l : List ℕ) (q : Reached) (n : ℕ) → length (standingAfter l (More q n)) ≡ headerStanding
+  pub all-seen : (l : List ℕ) → length l ≡ headerSeen → (s : Seen) → length (seenAfter l s) ≡ headerSeen
   pub longest-line : mostLine ≡ headerLine
 
 -- No second number, and no second content of anything lent, keeps an export's promise
 
 abbrev pub Start-says-unique : Type 0
-Start-says-unique = (cards blocks n m : ℕ) (w₁ w₂ : List ℕ) → Says (λ r. Starts cards blocks r w₁) n → Says (λ r. Starts cards blocks r w₂) m
+Start-says-unique = (e cards blocks n m : ℕ) (w₁ w₂ : List ℕ) → Says (λ r. StartsByte e cards blocks r w₁) n → Says (λ r. StartsByte e cards blocks r w₂) m
     → (n ≡ m) × (w₁ ≡ w₂)
 
 abbrev pub Event-says-unique : Type 0

@@ -7,7 +7,6 @@ use Rattle.rules.specs.Answers.{refusalNo}
 use Rattle.journal.specs.Records.{bytesOf}
 use Rattle.journal.specs.Reading.{damageNo, placeAfter, readAt}
 use Rattle.journal.specs.Writing.{writtenNo, placeWritten, Puts}
-use Rattle.journal.specs.declared.Damage.the-variants.{UnknownTag}
 use Rattle.journal.specs.declared.Found.{Found}
 use Rattle.journal.specs.declared.Found.the-variants.{Whole, End, Damaged}
 use Rattle.journal.specs.declared.Written.{Written}
@@ -18,7 +17,7 @@ use Rattle.engine.specs.declared.run.Ran.the-variants.{More, Over, Refused}
 use Rattle.firmware.specs.Halves.{half}
 use Rattle.firmware.specs.Fields.{fields}
 use Rattle.firmware.specs.declared.Named.{Named}
-use Rattle.firmware.specs.declared.Named.the-variants.{One, Unknown}
+use Rattle.firmware.specs.declared.Named.the-variants.{One, No}
 
 -- Reading
 
@@ -42,11 +41,11 @@ pub record Reads (journal : List ℕ) (place : ℕ) (l : List ℕ) (n place′ :
 
 -- Writing
 
--- buffer and place before and after writing what was named, which answers n: 21 where no record has the tag
+-- buffer and place before and after writing what was named, which answers n: the refusal, where nothing was
 abbrev pub Writes : List ℕ → ℕ → Named → ℕ → List ℕ → ℕ → Type 0
 Writes buffer place (One one) n buffer′ place′ = (r : Written) × Puts buffer place (bytesOf one) r buffer′
     × (n ≡ writtenNo r * half) × (place′ ≡ placeWritten place r)
-Writes buffer place Unknown n buffer′ place′ = (n ≡ damageNo UnknownTag * half) × (buffer′ ≡ buffer) × (place′ ≡ place)
+Writes buffer place (No d) n buffer′ place′ = (n ≡ damageNo d * half) × (buffer′ ≡ buffer) × (place′ ≡ place)
 
 -- Running
 

@@ -1,5 +1,6 @@
 -- What the exported functions promise.
 pub mod Halves
+pub mod Editions
 pub mod Fields
 pub mod Journals
 pub mod Looks

@@ -1,13 +1,13 @@
 -- The version and the sizes that include/coherence.h names: how much is lent to the exported functions.
 use Prim.Native.Nat.{ℕ}
 
--- 1.0.0: major * 65536 + minor * 256 + patch
+-- 2.0.0: major * 65536 + minor * 256 + patch
 abbrev pub headerVersion : ℕ
-headerVersion = 65536
+headerVersion = 131072
 
 -- the words of a chassis
 abbrev pub headerWords : ℕ
-headerWords = 1509
+headerWords = 1510
 
 -- the numbers of a record
 abbrev pub headerFields : ℕ
@@ -19,7 +19,7 @@ headerStanding = 3
 
 -- the numbers that a look shows
 abbrev pub headerSeen : ℕ
-headerSeen = 5
+headerSeen = 6
 
 -- the longest line
 abbrev pub headerLine : ℕ

@@ -1,18 +1,32 @@
 // Start and the events, on words that C lends: each answers the number of the engine's answer.
+use crate::editions::MOSI;
+use crate::editions::MSI;
 use crate::halves::one_number;
 use engine::events;
 use engine::start::start_in;
+use rules::Edition;
 use words::layout::WORDS;
 ghost use Rattle.rules.specs.declared.Event.the-variants.{Load, Store, Drop, Ask, Order, Deliver, Copy, Rejoin};
-ghost use Rattle.engine.specs.Promise.{Starts, Answers};
+ghost use Rattle.engine.specs.Promise.{Answers};
+ghost use Rattle.firmware.specs.Editions.{StartsByte};
 ghost use Rattle.firmware.specs.Halves.{Says};
 
-// The words become those of a new chassis of so many cards and blocks; of none, where these are out of range.
+// The words become those of a new chassis of an edition and of so many cards and blocks; of none, where one of these is out of range.
 #[no_mangle]
-pub extern "C" fn coherence_start(state: &mut [u64; WORDS], cards: u8, blocks: u8) -> u64
-    ensures { λ n. ⌜ Says (λ r. Starts cards blocks r (now (state .exit))) n ⌝ }
+pub extern "C" fn coherence_start(
+    state: &mut [u64; WORDS],
+    edition: u8,
+    cards: u8,
+    blocks: u8,
+) -> u64
+    ensures { λ n. ⌜ Says (λ r. StartsByte edition cards blocks r (now (state .exit))) n ⌝ }
 {
-    one_number(start_in(state, cards, blocks))
+    match edition {
+        MSI => one_number(start_in(state, Edition::Msi, cards, blocks)),
+        MOSI => one_number(start_in(state, Edition::Mosi, cards, blocks)),
+        // No edition is refused as no cards are.
+        _ => one_number(start_in(state, Edition::Msi, 0, 0)),
+    }
 }
 
 // A card reads its cell's value, and nothing changes.

@@ -1,6 +1,10 @@
-// A record as seven numbers: its tag, card, block, kind, mask, value and position. What a record has not is 0; an opening's cards and
-// blocks stand in the places of a card and a block.
+// A record as seven numbers: its tag, card, block, kind, mask, value and position. What a record has not is 0; an opening's cards,
+// blocks and edition stand in the places of a card, a block and a kind.
 use crate::Named;
+use crate::editions::MOSI;
+use crate::editions::MSI;
+use crate::editions::edition_no;
+use journal::Damage;
 use journal::Record;
 use journal::tags::ASK;
 use journal::tags::COPY;
@@ -11,10 +15,14 @@ use journal::tags::OPENING;
 use journal::tags::ORDER;
 use journal::tags::REJOIN;
 use journal::tags::STORE;
+use rules::Edition;
 use rules::Event;
 ghost use mathlib.Core.Path.{_≡_};
 ghost use mathlib.Core.List.{_∷_, []};
-ghost use Rattle.journal.specs.declared.Record.the-variants.{Happens};
+ghost use Rattle.journal.specs.declared.Record.the-variants.{Opening, Happens};
+ghost use Rattle.journal.specs.declared.Damage.the-variants.{WrongOpening};
+ghost use Rattle.firmware.specs.declared.Named.the-variants.{One, No};
+ghost use Rattle.firmware.specs.Editions.{byEdition};
 ghost use Rattle.firmware.specs.Fields.{fields, named};
 
 // How many numbers a record has.
@@ -25,7 +33,11 @@ pub(crate) fn fields_of(one: Record) -> [u64; FIELDS]
     ensures { λ r. ⌜ r ≡ fields one ⌝ }
 {
     match one {
-        Record::Opening { cards, blocks } => seven(OPENING, cards, blocks, 0, 0, 0, 0),
+        Record::Opening {
+            edition,
+            cards,
+            blocks,
+        } => seven(OPENING, cards, blocks, edition_no(edition), 0, 0, 0),
         Record::Happens(event) => event_fields(event),
     }
 }
@@ -74,6 +86,25 @@ fn seven(
     ]
 }
 
+// The opening of an edition's number.
+fn opening_of(edition: u8, cards: u8, blocks: u8) -> Named
+    ensures { λ r. ⌜ r ≡ byEdition edition (λ e. One (Opening e cards blocks)) (No WrongOpening) ⌝ }
+{
+    match edition {
+        MSI => Named::One(Record::Opening {
+            edition: Edition::Msi,
+            cards,
+            blocks,
+        }),
+        MOSI => Named::One(Record::Opening {
+            edition: Edition::Mosi,
+            cards,
+            blocks,
+        }),
+        _ => Named::No(Damage::WrongOpening),
+    }
+}
+
 // The record of a tag and the fields that it has.
 pub(crate) fn record_of(
     tag: u8,
@@ -87,10 +118,7 @@ pub(crate) fn record_of(
     ensures { λ r. ⌜ r ≡ named tag card block kind mask value position ⌝ }
 {
     match tag {
-        OPENING => Named::One(Record::Opening {
-            cards: card,
-            blocks: block,
-        }),
+        OPENING => opening_of(kind, card, block),
         LOAD => Named::One(Record::Happens(Event::Load { card, block })),
         STORE => Named::One(Record::Happens(Event::Store { card, block, value })),
         ASK => Named::One(Record::Happens(Event::Ask {
@@ -104,6 +132,6 @@ pub(crate) fn record_of(
         DELIVER => Named::One(Record::Happens(Event::Deliver { position })),
         COPY => Named::One(Record::Happens(Event::Copy { position })),
         REJOIN => Named::One(Record::Happens(Event::Rejoin { card })),
-        _ => Named::Unknown,
+        _ => Named::No(Damage::UnknownTag),
     }
 }

@@ -7,7 +7,6 @@ use crate::halves::refused;
 use engine::run::Ran;
 use engine::run::Reached;
 use engine::run::run;
-use journal::Damage;
 use journal::Found;
 use journal::Written;
 use journal::numbers::damage_no;
@@ -61,7 +60,7 @@ pub extern "C" fn coherence_write(
         (now (buffer .exit)) (now (place .exit)) ⌝ }
 {
     match record_of(tag, card, block, kind, mask, value, position) {
-        Named::Unknown => refused(damage_no(Damage::UnknownTag)),
+        Named::No(damage) => refused(damage_no(damage)),
         Named::One(one) => {
             let written = write(buffer, *place, one);
             let Written::UpTo(next) = written else {

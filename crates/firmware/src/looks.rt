@@ -1,4 +1,5 @@
 // Looking at a chassis: what is seen comes out as numbers, in what C lends for them.
+use crate::editions::edition_no;
 use crate::halves::refused;
 use engine::Seen;
 use engine::looks;
@@ -9,7 +10,7 @@ ghost use Rattle.engine.specs.Looking.{counts, message, request, cell, home};
 ghost use Rattle.firmware.specs.Looks.{seenNumber, seenAfter, Shows};
 
 // How many numbers a look shows.
-pub(crate) const SEEN: usize = 5;
+pub(crate) const SEEN: usize = 6;
 
 // What is seen, in numbers; a refusal keeps those that there were.
 fn show(what: Seen, seen: &mut [u64; SEEN]) -> u64
@@ -17,8 +18,16 @@ fn show(what: Seen, seen: &mut [u64; SEEN]) -> u64
 {
     match what {
         Seen::Counts(n) => {
+            let edition = n.edition;
             let last = n.last;
-            *seen = [n.cards, n.blocks, n.waiting, n.pooled, last.0];
+            *seen = [
+                edition_no(edition) as u64,
+                n.cards,
+                n.blocks,
+                n.waiting,
+                n.pooled,
+                last.0,
+            ];
             0
         }
         Seen::Message(m) => {
@@ -29,6 +38,7 @@ fn show(what: Seen, seen: &mut [u64; SEEN]) -> u64
                 m.block as u64,
                 m.value as u64,
                 number.0,
+                0,
             ];
             0
         }
@@ -40,23 +50,24 @@ fn show(what: Seen, seen: &mut [u64; SEEN]) -> u64
                 r.kind as u64,
                 r.mask as u64,
                 retry.0 as u64,
+                0,
             ];
             0
         }
         Seen::Cell(x) => {
             let awaits = x.awaits;
-            *seen = [x.state as u64, x.value as u64, awaits.0, 0, 0];
+            *seen = [x.state as u64, x.value as u64, awaits.0, 0, 0, 0];
             0
         }
         Seen::Home(h) => {
-            *seen = [h.memory as u64, h.owner as u64, h.sharers as u64, 0, 0];
+            *seen = [h.memory as u64, h.owner as u64, h.sharers as u64, 0, 0, 0];
             0
         }
         Seen::Refused(refusal) => refused(refusal_no(refusal)),
     }
 }
 
-// The sizes, how many wait and how many messages there are, and the last order number.
+// The edition, the sizes, how many wait and how many messages there are, and the last order number.
 #[no_mangle]
 pub extern "C" fn coherence_counts(state: &[u64; WORDS], seen: &mut [u64; SEEN]) -> u64
     ensures { λ n. ⌜ Shows (now (state .entry)) counts (now (seen .entry)) n (now (seen .exit)) ⌝ }

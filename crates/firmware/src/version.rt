@@ -2,8 +2,8 @@
 ghost use mathlib.Core.Path.{_≡_};
 ghost use Rattle.firmware.specs.Sizes.{headerVersion};
 
-// 1.0.0: major * 65536 + minor * 256 + patch.
-const VERSION: u32 = 65536;
+// 2.0.0: major * 65536 + minor * 256 + patch.
+const VERSION: u32 = 131072;
 
 #[no_mangle]
 pub extern "C" fn coherence_version() -> u32

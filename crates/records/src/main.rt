@@ -7,6 +7,7 @@ use journal::numbers::written_no;
 use journal::reading::place_after;
 use journal::reading::read;
 use journal::writing::write;
+use rules::Edition;
 use rules::Event;
 
 // The length of each buffer, and the byte that a fresh one is filled with.
@@ -22,13 +23,10 @@ fn main() {
     damage();
 }
 
-// The opening, and the events that stay within a card.
+// The opening of each edition, and the events that stay within a card.
 fn cards() {
-    let opening = Record::Opening {
-        cards: 8,
-        blocks: 32,
-    };
-    tell(b"opening of 8 and 32", 2, opening);
+    opening(b"opening of 8 and 32", Edition::Msi);
+    opening(b"MOSI opening of 8 and 32", Edition::Mosi);
     event(
         b"load",
         2,
@@ -78,19 +76,31 @@ fn room() {
     event(b"load at 2^64 - 1", 18446744073709551615, load);
 }
 
-// 21, 22 twice, 23 and 20, in buffers that no writer made.
+// 21, 22 twice, 23 twice and 20, in buffers that no writer made.
 fn damage() {
     let f = FILLER;
     let tag = [f, f, 24, 0, 2, 255, 3, f, f, f, f, f, f, f, f, f];
     let length = [f, f, 16, 0, 3, 255, 3, f, f, f, f, f, f, f, f, f];
     let wide = [f, f, 16, 1, 2, 255, 3, f, f, f, f, f, f, f, f, f];
-    let opening = [f, f, 1, 0, 6, 99, 111, 104, 50, 8, 32, f, f, f, f, f];
+    let coh2 = [f, f, 1, 0, 6, 99, 111, 104, 50, 8, 32, f, f, f, f, f];
+    let noh1 = [f, f, 1, 0, 6, 110, 111, 104, 49, 8, 32, f, f, f, f, f];
     let cut = [f, f, f, f, f, f, f, f, f, f, f, f, 16, 0, 2, 255];
     damaged(b"tag 24", 2, tag);
     damaged(b"length 3", 2, length);
     damaged(b"length 258", 2, wide);
-    damaged(b"opening coh2", 2, opening);
+    damaged(b"opening coh2", 2, coh2);
+    damaged(b"opening noh1", 2, noh1);
     damaged(b"load cut short", 12, cut);
+}
+
+// The opening of 8 cards and 32 blocks at place 2.
+fn opening(name: &[u8], edition: Edition) {
+    let one = Record::Opening {
+        edition,
+        cards: 8,
+        blocks: 32,
+    };
+    tell(name, 2, one);
 }
 
 // A store by card 7 at place 2.

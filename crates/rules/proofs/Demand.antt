@@ -19,6 +19,7 @@ use Rattle.rules.specs.Events.{noCard, noBlock, rightReasons, noMessage,
 use Rattle.rules.specs.History.{Did, loaded, settles, quiet, headBlock, didAccepted, did, Run, run, stories}
 use Rattle.rules.specs.Demand.{Coherent}
 use Rattle.rules.specs.Claims.{Rules-coherent}
+use Rattle.rules.specs.declared.Edition.{Edition}
 use Rattle.rules.specs.declared.Request.{Request}
 use Rattle.rules.specs.declared.Answer.{Answer}
 use Rattle.rules.specs.declared.Answer.the-variants.{Done, Refused}
@@ -38,6 +39,7 @@ use Rattle.rules.proofs.Tests.{clash, cond-cases}
 use Rattle.rules.proofs.Lists.{All-map}
 use Rattle.rules.proofs.Board.{pending, base, pick, current}
 use Rattle.rules.proofs.Invariant.{RequestOk, Inv}
+use Rattle.rules.proofs.States.{idle-sole}
 use Rattle.rules.proofs.Blocks.{idle-ok, one-storer}
 use Rattle.rules.proofs.Holders.{held-not, possible, loader-only, load-current}
 use Rattle.rules.proofs.Stores.{LoadOk, Past, past-empty, past-more, struck-unseen}
@@ -58,13 +60,14 @@ use Rattle.rules.proofs.Stays.{stays-formed}
 -- The beginning
 
 -- a fresh chassis has done nothing yet
-fresh-ok : (cards blocks : ℕ) → cards ≤ home → Inv (fresh cards blocks) []
+fresh-ok : (e : Edition) (cards blocks : ℕ) → cards ≤ home → Inv (fresh e cards blocks) []
 unfolding pending base pick
-fresh-ok cards blocks few = record {
+fresh-ok e cards blocks few = record {
   few = few;
   blocks-ok = λ b. record {
     cells = λ k. idle-ok cards home 0 0 0 k;
     owner-ok = λ n. absurd (n refl);
+    beside = λ k p. idle-sole;
     writes = tt;
     memory-is = refl;
   };
@@ -197,8 +200,8 @@ coherent r g = record {
 }
 
 pub rules-coherent : Rules-coherent
-rules-coherent cards blocks v = start-cases cards blocks
+rules-coherent e cards blocks v = start-cases e cards blocks
     (λ o. o .answer ≡ Done v → (es : List Event) → Coherent (run (o .after) es))
-    (λ h _ es. coherent _ (run-good (fresh cards blocks)
-    (fresh-ok cards blocks (let f = sizes→ cards blocks h .few-cards in omega arith)) (fresh-formed cards blocks h) es))
-    (λ r e. absurd (refused≢done r v e))
+    (λ h _ es. coherent _ (run-good (fresh e cards blocks)
+    (fresh-ok e cards blocks (let f = sizes→ cards blocks h .few-cards in omega arith)) (fresh-formed e cards blocks h) es))
+    (λ r f. absurd (refused≢done r v f))

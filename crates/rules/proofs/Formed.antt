@@ -23,7 +23,7 @@ use Rattle.rules.specs.Numbers.{
   upToRetry,
   gets,
   putx,
-  states,
+  statesIn,
 }
 use Rattle.rules.specs.Table.{loads, waits}
 use Rattle.rules.specs.Chassis.{Block, Chassis, idle, goes, goesFor}
@@ -38,6 +38,8 @@ use Rattle.rules.specs.Formed.{
   okMessage,
   wellFormed,
 }
+use Rattle.rules.specs.declared.Edition.{Edition}
+use Rattle.rules.specs.declared.Edition.the-variants.{Msi, Mosi}
 use Rattle.rules.specs.declared.OrderNo.{OrderNo}
 use Rattle.rules.specs.declared.Cell.{Cell}
 use Rattle.rules.specs.declared.Request.{Request}
@@ -46,36 +48,36 @@ use Rattle.rules.proofs.Tests.{test, cond-cases, each→, →each, all-
 
 -- Cells
 
-pub record CellWf (last : OrderNo) (x : Cell) : Type 0 where
-  pub code : x .state < states
+pub record CellWf (e : Edition) (last : OrderNo) (x : Cell) : Type 0 where
+  pub code : x .state < statesIn e
   pub given : x .awaits .0 ≤ last .0
   pub awaited : (waits (x .state) ⇒ not (sameNumber (x .awaits) noNumber)) ≡ true
   pub unawaited : (not (waits (x .state)) ⇒ sameNumber (x .awaits) noNumber) ≡ true
   pub unloaded : (not (loads (x .state)) ⇒ eqb (x .value) 0) ≡ true
 
-pub cell→ : (last : OrderNo) (x : Cell) → okCell last x ≡ true → CellWf last x
+pub cell→ : (e : Edition) (last : OrderNo) (x : Cell) → okCell e last x ≡ true → CellWf e last x
 unfolding okCell
-cell→ last x h =
-    let t = each→ (ltb (x .state) states ∷ upToNumber (x .awaits) last ∷ _ ∷ _ ∷ _ ∷ []) h in
+cell→ e last x h =
+    let t = each→ (ltb (x .state) (statesIn e) ∷ upToNumber (x .awaits) last ∷ _ ∷ _ ∷ _ ∷ []) h in
     record {
-      code = ltb-true (x .state) states (t .0);
+      code = ltb-true (x .state) (statesIn e) (t .0);
       given = leb-true (x .awaits .0) (last .0) (t .1 .0);
       awaited = t .1 .1 .0;
       unawaited = t .1 .1 .1 .0;
       unloaded = t .1 .1 .1 .1 .0;
     }
 
-pub →cell : (last : OrderNo) (x : Cell) → CellWf last x → okCell last x ≡ true
+pub →cell : (e : Edition) (last : OrderNo) (x : Cell) → CellWf e last x → okCell e last x ≡ true
 unfolding okCell
-→cell last x h = →each _ (
-  lt-ltb (x .state) states (h .code),
+→cell e last x h = →each _ (
+  lt-ltb (x .state) (statesIn e) (h .code),
   (le-leb (x .awaits .0) (last .0) (h .given), (h .awaited, (h .unawaited, (h .unloaded, tt)))),
 )
 
 -- a cell that goes to a state
-pub goesFor-wf : (last n : OrderNo) (s : ℕ) (x : Cell) → s < states → n .0 ≤ last .0 → (waits s ⇒ not (sameNumber n noNumber)) ≡ true
-    → (not (waits s) ⇒ sameNumber n noNumber) ≡ true → CellWf last (goesFor n s x)
-goesFor-wf last n s x l le p q = record {
+pub goesFor-wf : (e : Edition) (last n : OrderNo) (s : ℕ) (x : Cell) → s < statesIn e → n .0 ≤ last .0 → (waits s ⇒ not (sameNumber n noNumber)) ≡ true
+    → (not (waits s) ⇒ sameNumber n noNumber) ≡ true → CellWf e last (goesFor n s x)
+goesFor-wf e last n s x l le p q = record {
   code = l;
   given = le;
   awaited = p;
@@ -83,16 +85,21 @@ goesFor-wf last n s x l le p q = record {
   unloaded = test (loads s) (λ e. rw e) (λ e. rw e);
 }
 
-pub goes-wf : (last : OrderNo) (s : ℕ) (x : Cell) → s < states → waits s ≡ false → CellWf last (goes s x)
-goes-wf last s x l w = goesFor-wf last noNumber s x l (omega arith) (rw w) (rw w)
+pub goes-wf : (e : Edition) (last : OrderNo) (s : ℕ) (x : Cell) → s < statesIn e → waits s ≡ false → CellWf e last (goes s x)
+goes-wf e last s x l w = goesFor-wf e last noNumber s x l (omega arith) (rw w) (rw w)
 
-pub idle-wf : (last : OrderNo) → CellWf last idle
+-- I is a state of every edition
+idle-code : (e : Edition) → idle .state < statesIn e
+idle-code Msi = omega arith
+idle-code Mosi = omega arith
+
+pub idle-wf : (e : Edition) (last : OrderNo) → CellWf e last idle
 unfolding waits loads
-idle-wf last = record { code = omega arith; given = omega arith; awaited = refl; unawaited = refl; unloaded = refl }
+idle-wf e last = record { code = idle-code e; given = omega arith; awaited = refl; unawaited = refl; unloaded = refl }
 
 -- more order numbers are given
-pub grow : (last last′ : OrderNo) (x : Cell) → last .0 ≤ last′ .0 → CellWf last x → CellWf last′ x
-grow last last′ x le h = record {
+pub grow : (e : Edition) (last last′ : OrderNo) (x : Cell) → last .0 ≤ last′ .0 → CellWf e last x → CellWf e last′ x
+grow e last last′ x le h = record {
   code = h .code;
   given = let g = h .given in omega arith;
   awaited = h .awaited;
@@ -117,55 +124,55 @@ idle-unused = refl
 -- Blocks
 
 -- a cell is well formed where a card is there, and unused where none is
-pub record Place (cards : ℕ) (last : OrderNo) (k : ℕ) (x : Cell) : Type 0 where
-  pub used : k < cards → CellWf last x
+pub record Place (e : Edition) (cards : ℕ) (last : OrderNo) (k : ℕ) (x : Cell) : Type 0 where
+  pub used : k < cards → CellWf e last x
   pub unused : cards ≤ k → unusedCell x ≡ true
 
-pub record BlockWf (cards : ℕ) (last : OrderNo) (B : Block) : Type 0 where
+pub record BlockWf (e : Edition) (cards : ℕ) (last : OrderNo) (B : Block) : Type 0 where
   pub owner : homeOrCard cards (B .owner) ≡ true
   pub sharers : inside cards (B .sharers) ≡ true
-  pub places : (k : ℕ) → k < mostCards → Place cards last k (B .cell k)
+  pub places : (k : ℕ) → k < mostCards → Place e cards last k (B .cell k)
 
 -- the test of a place
-abbrev placeTest : ℕ → OrderNo → Block → ℕ → Bool
-placeTest cards last B k = cond (ltb k cards) (okCell last (B .cell k)) (unusedCell (B .cell k))
+abbrev placeTest : Edition → ℕ → OrderNo → Block → ℕ → Bool
+placeTest e cards last B k = cond (ltb k cards) (okCell e last (B .cell k)) (unusedCell (B .cell k))
 
-pub block→ : (cards : ℕ) (last : OrderNo) (B : Block) → okBlock cards last B ≡ true → BlockWf cards last B
+pub block→ : (e : Edition) (cards : ℕ) (last : OrderNo) (B : Block) → okBlock e cards last B ≡ true → BlockWf e cards last B
 unfolding okBlock
-block→ cards last B h =
-    let t = each→ (homeOrCard cards (B .owner) ∷ inside cards (B .sharers) ∷ all mostCards (placeTest cards last B) ∷ []) h in
-    let at = all-elim mostCards (placeTest cards last B) (t .1 .1 .0) in
+block→ e cards last B h =
+    let t = each→ (homeOrCard cards (B .owner) ∷ inside cards (B .sharers) ∷ all mostCards (placeTest e cards last B) ∷ []) h in
+    let at = all-elim mostCards (placeTest e cards last B) (t .1 .1 .0) in
     record {
       owner = t .0;
       sharers = t .1 .0;
       places = λ k l. record {
-        used = λ q. cell→ last (B .cell k) (rw (lt-ltb k cards q) at (at k l));
+        used = λ q. cell→ e last (B .cell k) (rw (lt-ltb k cards q) at (at k l));
         unused = λ q. rw (le-ltb k cards q) at (at k l);
       };
     }
 
-pub →block : (cards : ℕ) (last : OrderNo) (B : Block) → BlockWf cards last B → okBlock cards last B ≡ true
+pub →block : (e : Edition) (cards : ℕ) (last : OrderNo) (B : Block) → BlockWf e cards last B → okBlock e cards last B ≡ true
 unfolding okBlock
-→block cards last B h = →each _ (
+→block e cards last B h = →each _ (
   h .owner,
   (
     h .sharers,
     (
-      all-intro mostCards (placeTest cards last B) (λ k l.
-          cond-cases (λ t. t ≡ true) (ltb k cards) (okCell last (B .cell k)) (unusedCell (B .cell k))
-          (λ p. →cell last (B .cell k) (h .places k l .used (ltb-true k cards p)))
+      all-intro mostCards (placeTest e cards last B) (λ k l.
+          cond-cases (λ t. t ≡ true) (ltb k cards) (okCell e last (B .cell k)) (unusedCell (B .cell k))
+          (λ p. →cell e last (B .cell k) (h .places k l .used (ltb-true k cards p)))
           (λ p. h .places k l .unused (ltb-false k cards p))),
       tt,
     ),
   ),
 )
 
-pub grow-block : (cards : ℕ) (last last′ : OrderNo) (B : Block) → last .0 ≤ last′ .0 → BlockWf cards last B → BlockWf cards last′ B
-grow-block cards last last′ B le h = record {
+pub grow-block : (e : Edition) (cards : ℕ) (last last′ : OrderNo) (B : Block) → last .0 ≤ last′ .0 → BlockWf e cards last B → BlockWf e cards last′ B
+grow-block e cards last last′ B le h = record {
   owner = h .owner;
   sharers = h .sharers;
   places = λ k l. record {
-    used = λ q. grow last last′ (B .cell k) le (h .places k l .used q);
+    used = λ q. grow e last last′ (B .cell k) le (h .places k l .used q);
     unused = h .places k l .unused;
   };
 }
@@ -313,12 +320,12 @@ pub record Wf (c : Chassis) : Type 0 where
   pub pool-room : length (c .pool) ≤ room
   pub requests : All (λ r. okRequest (c .cards) (c .blocks) r ≡ true) (c .line)
   pub messages : All (λ m. okMessage (c .cards) (c .blocks) (c .last) m ≡ true) (c .pool)
-  pub used : (b : ℕ) → b < mostBlocks → b < c .blocks → BlockWf (c .cards) (c .last) (c .block b)
+  pub used : (b : ℕ) → b < mostBlocks → b < c .blocks → BlockWf (c .edition) (c .cards) (c .last) (c .block b)
   pub unused : (b : ℕ) → b < mostBlocks → c .blocks ≤ b → unusedBlock (c .block b) ≡ true
 
 -- the test of a block's place
 abbrev blockTest : Chassis → ℕ → Bool
-blockTest c b = cond (ltb b (c .blocks)) (okBlock (c .cards) (c .last) (c .block b)) (unusedBlock (c .block b))
+blockTest c b = cond (ltb b (c .blocks)) (okBlock (c .edition) (c .cards) (c .last) (c .block b)) (unusedBlock (c .block b))
 
 pub wf→ : (c : Chassis) → wellFormed c ≡ true → Wf c
 unfolding wellFormed
@@ -333,7 +340,7 @@ wf→ c h =
       pool-room = leb-true (length (c .pool)) room (t .1 .1 .0);
       requests = allOf→ (okRequest (c .cards) (c .blocks)) (c .line) (t .1 .1 .1 .0);
       messages = allOf→ (okMessage (c .cards) (c .blocks) (c .last)) (c .pool) (t .1 .1 .1 .1 .0);
-      used = λ b l u. block→ (c .cards) (c .last) (c .block b) (rw (lt-ltb b (c .blocks) u) at (at b l));
+      used = λ b l u. block→ (c .edition) (c .cards) (c .last) (c .block b) (rw (lt-ltb b (c .blocks) u) at (at b l));
       unused = λ b l u. rw (le-ltb b (c .blocks) u) at (at b l);
     }
 
@@ -351,7 +358,7 @@ unfolding wellFormed
           →allOf (okMessage (c .cards) (c .blocks) (c .last)) (c .pool) (w .messages),
           (
             all-intro mostBlocks (blockTest c) (λ b l. test (ltb b (c .blocks))
-                (λ u. rw u (→block (c .cards) (c .last) (c .block b) (w .used b l (ltb-true b (c .blocks) u))))
+                (λ u. rw u (→block (c .edition) (c .cards) (c .last) (c .block b) (w .used b l (ltb-true b (c .blocks) u))))
                 (λ u. rw u (w .unused b l (ltb-false b (c .blocks) u)))),
             tt,
           ),

@@ -8,7 +8,21 @@ use lib.Dec.{eqb}
 use Rattle.rules.specs.Tests.{oneOf}
 use Rattle.rules.specs.Lists.{All}
 use Rattle.rules.specs.Masks.{has}
-use Rattle.rules.specs.Numbers.{home, I, S, M, SM-AD, IS-D, IM-D, SM-D, MI-A, states}
+use Rattle.rules.specs.Numbers.{
+  home,
+  I,
+  S,
+  M,
+  SM-AD,
+  IS-D,
+  IM-D,
+  SM-D,
+  MI-A,
+  O,
+  OM-AD,
+  OI-A,
+  states,
+}
 use Rattle.rules.specs.Table.{stores, comesFrom}
 use Rattle.rules.specs.Chassis.{Block, Chassis}
 use Rattle.rules.specs.Events.{live}
@@ -19,14 +33,19 @@ use Rattle.rules.specs.declared.Request.{Request}
 use Rattle.rules.specs.declared.Message.{Message}
 use Rattle.rules.proofs.Board.{Write, pending, base, pick, here}
 
--- Three more sets of states, for the proof
+-- Four more sets of states, for the proof
 
 -- home lists the card as the owner
 unfoldable pub owns : ℕ → Bool
 unfolding oneOf
-owns s = oneOf (M ∷ IM-D ∷ SM-D ∷ MI-A ∷ []) s
+owns s = oneOf (M ∷ IM-D ∷ SM-D ∷ MI-A ∷ O ∷ OM-AD ∷ OI-A ∷ []) s
 
--- home lists the card among the sharers, and no card as the owner
+-- it is an owner beside which nobody shares
+unfoldable pub sole : ℕ → Bool
+unfolding oneOf
+sole s = oneOf (M ∷ IM-D ∷ SM-D ∷ MI-A ∷ []) s
+
+-- home lists the card among the sharers
 unfoldable pub shares : ℕ → Bool
 unfolding oneOf
 shares s = oneOf (S ∷ SM-AD ∷ IS-D ∷ []) s
@@ -34,14 +53,14 @@ shares s = oneOf (S ∷ SM-AD ∷ IS-D ∷ []) s
 -- the value is memory's
 unfoldable pub copies : ℕ → Bool
 unfolding oneOf
-copies s = oneOf (S ∷ SM-AD ∷ SM-D ∷ []) s
+copies s = oneOf (S ∷ SM-AD ∷ SM-D ∷ O ∷ OM-AD ∷ OI-A ∷ []) s
 
 -- cell x of card k beside home's part of a block; current is the value that a load must return
 pub record CellOk (cards owner sharers memory current k : ℕ) (x : Cell) : Type 0 where
   pub code : x .state < states
   pub inside : eqb (x .state) I ≡ false → k < cards
   pub owned : owns (x .state) ≡ true → owner ≡ k
-  pub shared : shares (x .state) ≡ true → (owner ≡ home) × (has sharers k ≡ true)
+  pub shared : shares (x .state) ≡ true → has sharers k ≡ true
   pub copied : copies (x .state) ≡ true → x .value ≡ memory
   pub written : stores (x .state) ≡ true → x .value ≡ current
 
@@ -49,6 +68,7 @@ pub record CellOk (cards owner sharers memory current k : ℕ) (x : Cell) : Type
 pub record BlockOk (cards : ℕ) (B : Block) (ws : List Write) (d : ℕ) : Type 0 where
   pub cells : (k : ℕ) → CellOk cards (B .owner) (B .sharers) (B .memory) (pick here ws d) k (B .cell k)
   pub owner-ok : B .owner ≢ home → owns (B .cell (B .owner) .state) ≡ true
+  pub beside : (k : ℕ) → shares (B .cell k .state) ≡ true → sole (B .cell (B .owner) .state) ≡ false
   pub writes : All (λ w. stores (B .cell (w .card) .state) ≡ true) ws
   pub memory-is : B .memory ≡ d
 

@@ -1,4 +1,4 @@
--- M1 to M10 hold of the rules: antt plays them.
+-- The marked sequences hold of the rules: antt plays them.
 use mathlib.Core.Path.{refl}
 use Rattle.rules.specs.Tests.{each, any, all, some, allOf}
 use Rattle.rules.specs.Lists.{replace, removed, keep}
@@ -15,7 +15,9 @@ use Rattle.rules.specs.Table.{
   isReader,
   canGive,
   comesFrom,
+  upgrades,
   putStands,
+  leavesSharers,
   grantedTo,
   filledTo,
 }
@@ -26,7 +28,9 @@ use Rattle.rules.specs.Order.{
   noRoomFor,
   orderReasons,
   turn,
+  giver,
   given,
+  keeps,
   upshotOf,
   sees,
   ordered,
@@ -68,8 +72,8 @@ use Rattle.rules.specs.Claims.{Marked-hold, Slips-hold}
 -- all of the rules: who unfolds this unfolds each of them
 unfoldable pub the-rules : Unit {0}
 unfolding each any all some allOf replace removed keep has only every union without inside loads stores
-    asked seesGets seesGetx drops waits isReader canGive comesFrom putStands grantedTo filledTo
-    refusedBy held impossible noRoomFor orderReasons sharersNamed suffices turn given upshotOf sees ordered dataFor retryMask retried
+    asked seesGets seesGetx drops waits isReader canGive comesFrom upgrades putStands leavesSharers grantedTo filledTo
+    refusedBy held impossible noRoomFor orderReasons sharersNamed suffices turn giver given keeps upshotOf sees ordered dataFor retryMask retried
     orderHead order sizes homeOrCard okCell unusedCell okBlock unusedBlock okRequest okMessage wellFormed
     noCard noBlock rightReasons noMessage reasons ask live deliver rejoinBlock rejoin effect step start
 the-rules = tt

@@ -11,7 +11,7 @@ use Rattle.rules.specs.Mask.{sharersNamed, suffices}
 use Rattle.rules.specs.Numbers.{home, gets}
 use Rattle.rules.specs.Chassis.{Block}
 use Rattle.rules.specs.declared.Request.{Request}
-use Rattle.rules.proofs.Tests.{and-i, and-r, or-i, imp, imp-i, all-intro, all-elim}
+use Rattle.rules.proofs.Tests.{and-i, and-r, or-i, or-l, imp, imp-i, all-intro, all-elim}
 use Rattle.rules.proofs.Masks.{has-every}
 
 module _ (cards : ℕ) (B : Block) (r : Request) where
@@ -21,14 +21,14 @@ module _ (cards : ℕ) (B : Block) (r : Request) where
   unfolding suffices sharersNamed
   sharers-named g f k k< sh ne =
       let t = imp (all-elim cards (λ k. has (B .sharers) k ⇒ eqb k (r .card) || has (r .mask) k)
-      (rw g at (and-r (eqb (B .owner) home || has (r .mask) (B .owner)) _ f)) k k<) sh in
+      (rw g at (and-r (eqb (B .owner) home || eqb (B .owner) (r .card) || has (r .mask) (B .owner)) _ f)) k k<) sh in
       rw (ne-eqb k (r .card) (λ e. ne (sym e))) at t
 
   -- a mask of every card suffices
   pub every-suffices : (eqb (B .owner) home ≡ false → B .owner < cards) → r .mask ≡ every cards → suffices cards B r ≡ true
   unfolding suffices sharersNamed
   every-suffices owner-card e =
-      and-i {a = eqb (B .owner) home || has (r .mask) (B .owner)}
-      (or-i {a = eqb (B .owner) home} (λ f. rw e (has-every cards (B .owner) (owner-card f))))
+      and-i {a = eqb (B .owner) home || eqb (B .owner) (r .card) || has (r .mask) (B .owner)}
+      (or-i {a = eqb (B .owner) home || eqb (B .owner) (r .card)} (λ f. rw e (has-every cards (B .owner) (owner-card (or-l (eqb (B .owner) home) (eqb (B .owner) (r .card)) f)))))
       (or-i {a = eqb (r .kind) gets} (λ _. all-intro cards (λ k. has (B .sharers) k ⇒ eqb k (r .card) || has (r .mask) k)
       (λ k l. imp-i (has (B .sharers) k) (λ _. or-i {a = eqb k (r .card)} (λ _. rw e (has-every cards k l))))))

@@ -33,6 +33,10 @@ has-without a b k = rw (xor-shr a (bitAnd a b) k) (rw (and-shr a b k) (rw (xor-m
     (digit (λ y. eqb (bitXor 0 (bitAnd 0 y)) 1 ≡ (eqb 0 1 && not (eqb y 1))) refl refl (b / 2 ^ k))
     (digit (λ y. eqb (bitXor 1 (bitAnd 1 y)) 1 ≡ (eqb 1 1 && not (eqb y 1))) refl refl (b / 2 ^ k)) (a / 2 ^ k)))))
 
+pub has-none : (k : ℕ) → has 0 k ≡ false
+unfolding has
+has-none k = rw (div-eq-of-lt (pow-pos k))
+
 pub has-only : (k : ℕ) → has (only k) k ≡ true
 unfolding has only
 has-only k = rw (div-self (pow-pos k))

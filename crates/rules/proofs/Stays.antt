@@ -56,6 +56,7 @@ use Rattle.rules.specs.Order.{
   upshotOf,
   sees,
   ordered,
+  giver,
   dataFor,
   retryMask,
   retried,
@@ -106,10 +107,10 @@ use Rattle.rules.proofs.Masks.{
   none-inside,
 }
 use Rattle.rules.proofs.Mask.{every-suffices}
-use Rattle.rules.proofs.States.{state, filled, asking, asks}
+use Rattle.rules.proofs.States.{in-states, state, filled, asking, asks}
 use Rattle.rules.proofs.Refusals.{refused-cases}
 use Rattle.rules.proofs.Steps.{live-waits}
-use Rattle.rules.proofs.Upshots.{by-outcome, grant-no-put, miss-too-small, owner-cases, sharers-cases, cell-sees}
+use Rattle.rules.proofs.Upshots.{by-outcome, grant-no-put, miss-too-small, owner-cases, sharers-cases, In, turn-in, cell-sees}
 use Rattle.rules.proofs.Formed.{
   CellWf,
   goesFor-wf,
@@ -163,10 +164,10 @@ module _ {c : Chassis} (w : Wf c) where
   few : SizesWf (c .cards) (c .blocks)
   few = sizes→ (c .cards) (c .blocks) (w .size)
 
-  block-at : (b : ℕ) → b < c .blocks → BlockWf (c .cards) (c .last) (c .block b)
+  block-at : (b : ℕ) → b < c .blocks → BlockWf (c .edition) (c .cards) (c .last) (c .block b)
   block-at b l = let f = few .few-blocks in w .used b (omega arith) l
 
-  place-at : (k b : ℕ) → k < c .cards → b < c .blocks → CellWf (c .last) (cellOf c k b)
+  place-at : (k b : ℕ) → k < c .cards → b < c .blocks → CellWf (c .edition) (c .last) (cellOf c k b)
   place-at k b k< b< = let f = few .few-cards in block-at b b< .places k (omega arith) .used k<
 
   -- the old messages, where more order numbers are given
@@ -176,31 +177,31 @@ module _ {c : Chassis} (w : Wf c) where
   -- What an event leaves
 
   changed-wf : (b : ℕ) (B : Block) (l : List Request) (p : List Message) (n : OrderNo) → b < c .blocks → c .last .0 ≤ n .0
-      → BlockWf (c .cards) n B → length l ≤ room → length p ≤ room → RequestsOk l → MessagesOk n p → Wf (changed c b B l p n)
+      → BlockWf (c .edition) (c .cards) n B → length l ≤ room → length p ≤ room → RequestsOk l → MessagesOk n p → Wf (changed c b B l p n)
   changed-wf b B l p n b< le new lr pr rs ms = record {
     size = w .size;
     line-room = lr;
     pool-room = pr;
     requests = rs;
     messages = ms;
-    used = λ b′ l u. replace-cases (BlockWf (c .cards) n) (c .block) b B b′
-        (λ _. new) (λ _. grow-block (c .cards) (c .last) n (c .block b′) le (w .used b′ l u));
+    used = λ b′ l u. replace-cases (BlockWf (c .edition) (c .cards) n) (c .block) b B b′
+        (λ _. new) (λ _. grow-block (c .edition) (c .cards) (c .last) n (c .block b′) le (w .used b′ l u));
     unused = λ b′ l u. replace-cases (λ X. unusedBlock X ≡ true) (c .block) b B b′ (λ e. absurd (omega arith)) (λ _. w .unused b′ l u);
   }
 
   -- one cell of a card that is there anew
-  cell-wf : (k b : ℕ) (x : Cell) → k < c .cards → b < c .blocks → CellWf (c .last) x
-      → BlockWf (c .cards) (c .last) (withCell (c .block b) k x)
+  cell-wf : (k b : ℕ) (x : Cell) → k < c .cards → b < c .blocks → CellWf (c .edition) (c .last) x
+      → BlockWf (c .edition) (c .cards) (c .last) (withCell (c .block b) k x)
   cell-wf k b x k< b< h =
       let B = block-at b b< in
       record {
         owner = B .owner;
         sharers = B .sharers;
-        places = λ j l. replace-cases (Place (c .cards) (c .last) j) (c .block b .cell) k x j
+        places = λ j l. replace-cases (Place (c .edition) (c .cards) (c .last) j) (c .block b .cell) k x j
             (λ e. record { used = λ _. h; unused = λ q. absurd (omega arith) }) (λ _. B .places j l);
       }
 
-  cell-step : (k b : ℕ) (x : Cell) → k < c .cards → b < c .blocks → CellWf (c .last) x → Wf (cellChanged c k b x)
+  cell-step : (k b : ℕ) (x : Cell) → k < c .cards → b < c .blocks → CellWf (c .edition) (c .last) x → Wf (cellChanged c k b x)
   cell-step k b x k< b< h = changed-wf b (withCell (c .block b) k x) (c .line) (c .pool) (c .last) b< (omega arith)
       (cell-wf k b x k< b< h) (w .line-room) (w .pool-room) (w .requests) (w .messages)
 
@@ -217,7 +218,7 @@ module _ {c : Chassis} (w : Wf c) where
 
   -- Store and Ask
 
-  stored-wf : (k b v : ℕ) → k < c .cards → b < c .blocks → stores (stateOf c k b) ≡ true → CellWf (c .last) (storing v (cellOf c k b))
+  stored-wf : (k b v : ℕ) → k < c .cards → b < c .blocks → stores (stateOf c k b) ≡ true → CellWf (c .edition) (c .last) (storing v (cellOf c k b))
   stored-wf k b v k< b< h =
       let x = place-at k b k< b< in
       record {
@@ -225,7 +226,7 @@ module _ {c : Chassis} (w : Wf c) where
         given = x .given;
         awaited = x .awaited;
         unawaited = x .unawaited;
-        unloaded = rw (state (stateOf c k b) (x .code) .stores-loads h);
+        unloaded = rw (state (stateOf c k b) (in-states (c .edition) (stateOf c k b) (x .code)) .stores-loads h);
       }
 
   ask-wf : (k b kind mask : ℕ) → k < c .cards → b < c .blocks → gets ≤ kind → kind ≤ putx → inside (c .cards) mask ≡ true
@@ -233,10 +234,11 @@ module _ {c : Chassis} (w : Wf c) where
   unfolding ask
   ask-wf k b kind mask k< b< lo hi m h lr =
       let s = stateOf c k b in
-      let t = asks kind s (omega arith) (place-at k b k< b< .code) h in
+      let l = place-at k b k< b< .code in
+      let t = asks kind s (omega arith) (in-states (c .edition) s l) h in
       let r = aRequest k b kind mask firstRetry in
       changed-wf b _ (c .line ++ r ∷ []) (c .pool) (c .last) b< (omega arith)
-      (cell-wf k b (goes (asked kind s) (cellOf c k b)) k< b< (goes-wf (c .last) (asked kind s) (cellOf c k b) (t .code) (t .waits-not)))
+      (cell-wf k b (goes (asked kind s) (cellOf c k b)) k< b< (goes-wf (c .edition) (c .last) (asked kind s) (cellOf c k b) (t .code (c .edition) l) (t .waits-not)))
       (rw (length-append (c .line) (r ∷ [])) (omega arith)) (w .pool-room)
       (All-append (λ r. okRequest (c .cards) (c .blocks) r ≡ true) (c .line) (r ∷ []) (w .requests) (
         →request (c .cards) (c .blocks) r
@@ -260,10 +262,11 @@ module _ {c : Chassis} (w : Wf c) where
       let short : length p ≤ room = let a = removed-short i (c .pool) in let b = w .pool-room in omega arith in
       cond-cases (λ (o : Result). Wf (o .after)) (live (c .block b) m) _ _
       (λ e. let wt = live-waits (c .block b) m e in
-      let t = filled (x .state) (place-at k b (mok .receiver) (mok .block) .code) wt in
+      let at = place-at k b (mok .receiver) (mok .block) .code in
+      let t = filled (x .state) (in-states (c .edition) (x .state) at) wt in
       changed-wf b (withCell (c .block b) k (takes m x)) (c .line) p (c .last) (mok .block) (omega arith)
       (cell-wf k b (takes m x) (mok .receiver) (mok .block) (record {
-        code = t .code;
+        code = t .code (c .edition) at;
         given = omega arith;
         awaited = rw (t .waits-not);
         unawaited = rw (t .waits-not);
@@ -295,8 +298,8 @@ module _ {c : Chassis} (w : Wf c) where
           owner = cond-cases (λ y. homeOrCard (c .cards) y ≡ true) (eqb (c .block b .owner) k) home (c .block b .owner)
               (λ _. refl) (λ _. B .owner);
           sharers = without-inside (c .cards) (c .block b .sharers) (only k) (B .sharers) (only-inside (c .cards) k k<);
-          places = λ j l8. replace-cases (Place (c .cards) (c .last) j) (c .block b .cell) k idle j
-              (λ _. record { used = λ _. idle-wf (c .last); unused = λ _. idle-unused }) (λ _. B .places j l8);
+          places = λ j l8. replace-cases (Place (c .edition) (c .cards) (c .last) j) (c .block b .cell) k idle j
+              (λ _. record { used = λ _. idle-wf (c .edition) (c .last); unused = λ _. idle-unused }) (λ _. B .places j l8);
         };
         unused = λ b l u. rejoin-unused k (c .block b) (w .unused b l u);
       }
@@ -316,7 +319,7 @@ module _ {c : Chassis} (w : Wf c) where
     asks-ok : RequestWf (c .cards) (c .blocks) r
     asks-ok = request→ (c .cards) (c .blocks) r (requests .0)
 
-    block-ok : BlockWf (c .cards) (c .last) Head
+    block-ok : BlockWf (c .edition) (c .cards) (c .last) Head
     block-ok = block-at (r .block) (asks-ok .block)
 
     owner-card : eqb (Head .owner) home ≡ false → Head .owner < c .cards
@@ -328,21 +331,21 @@ module _ {c : Chassis} (w : Wf c) where
     free k k< = some-false (c .cards) (λ k. waits (Head .cell k .state)) h k k<
 
     -- every card's cell
-    seen-wf : (t : Turn) → CellWf Next (upshotOf t .askerSees Next (cellOf c (r .card) (r .block)))
-        → (k : ℕ) → k < mostCards → Place (c .cards) Next k (sees t Head r Next k)
+    seen-wf : (t : Turn) → In (c .edition) t → CellWf (c .edition) Next (upshotOf t .askerSees Next (cellOf c (r .card) (r .block)))
+        → (k : ℕ) → k < mostCards → Place (c .edition) (c .cards) Next k (sees t Head r Next k)
     unfolding loads
-    seen-wf t asker k k8 =
+    seen-wf t in′ asker k k8 =
         let x = Head .cell k in
         let pl = block-ok .places k k8 in
         let card = asks-ok .card in
         record {
           used = λ k<. let y = pl .used k< in
-              cell-sees (CellWf Next) t Head r Next k
-              (λ e. subst (λ i. CellWf Next (upshotOf t .askerSees Next (Head .cell i))) e asker)
-              (grow (c .last) Next x (omega arith) y)
-              (λ f col. goes-wf Next (f (x .state)) x (col .code (x .state) (y .code) (free k k<)) (col .waits-not (x .state) (y .code) (free k k<)));
+              cell-sees (c .edition) (CellWf (c .edition) Next) t in′ Head r Next k
+              (λ e. subst (λ i. CellWf (c .edition) Next (upshotOf t .askerSees Next (Head .cell i))) e asker)
+              (grow (c .edition) (c .last) Next x (omega arith) y)
+              (λ f col. goes-wf (c .edition) Next (f (x .state)) x (col .code (x .state) (y .code) (free k k<)) (col .waits-not (x .state) (y .code) (free k k<)));
           unused = λ ge. let e = unused-idle x (pl .unused ge) in
-              cell-sees (λ y. unusedCell y ≡ true) t Head r Next k (λ f. absurd (omega arith)) (pl .unused ge)
+              cell-sees (c .edition) (λ y. unusedCell y ≡ true) t in′ Head r Next k (λ f. absurd (omega arith)) (pl .unused ge)
               (λ f col. subst (λ y. unusedCell (goes (f (y .state)) y) ≡ true) (sym e) (rw (col .idle) idle-unused));
         }
 
@@ -364,9 +367,9 @@ module _ {c : Chassis} (w : Wf c) where
         (cond-cases (λ l. length rest + length l ≤ room) (eqb (upshotOf t .outcome) tooSmall) _ _ (λ _. omega arith) (λ _. omega arith))
 
     data-wf : okMessage (c .cards) (c .blocks) Next (dataFor Head r Next) ≡ true
-    unfolding dataFor
+    unfolding dataFor giver homeOrCard
     data-wf = →message (c .cards) (c .blocks) Next (dataFor Head r Next) (record {
-      sender = block-ok .owner;
+      sender = cond-cases (λ k. homeOrCard (c .cards) k ≡ true) (eqb (Head .owner) (r .card)) home (Head .owner) (λ _. refl) (λ _. block-ok .owner);
       receiver = asks-ok .card;
       block = asks-ok .block;
       numbered = next-numbered (c .last);
@@ -378,14 +381,14 @@ module _ {c : Chassis} (w : Wf c) where
         (cond-cases (MessagesOk Next) (eqb (upshotOf t .outcome) granted) _ _ (λ _. (data-wf, tt)) (λ _. tt))
 
     -- a turn, from what depends on it
-    turn-wf : (t : Turn) → CellWf Next (upshotOf t .askerSees Next (cellOf c (r .card) (r .block)))
+    turn-wf : (t : Turn) → In (c .edition) t → CellWf (c .edition) Next (upshotOf t .askerSees Next (cellOf c (r .card) (r .block)))
         → length (c .pool ++ upshotOf t .sent Head r Next) ≤ room → RequestsOk (upshotOf t .again (c .cards) Head r)
         → Wf (changed c (r .block) (ordered t Head r Next) (rest ++ upshotOf t .again (c .cards) Head r) (c .pool ++ upshotOf t .sent Head r Next) Next)
     unfolding ordered
-    turn-wf t asker pr rs =
+    turn-wf t in′ asker pr rs =
         changed-wf (r .block) (ordered t Head r Next) (rest ++ upshotOf t .again (c .cards) Head r) (c .pool ++ upshotOf t .sent Head r Next) Next
         (asks-ok .block) (omega arith)
-        (record { owner = owner-in t; sharers = sharers-in t; places = seen-wf t asker })
+        (record { owner = owner-in t; sharers = sharers-in t; places = seen-wf t in′ asker })
         (line-fits t) pr
         (All-append (λ r. okRequest (c .cards) (c .blocks) r ≡ true) rest (upshotOf t .again (c .cards) Head r) (requests .1) rs)
         (All-append (λ m. okMessage (c .cards) (c .blocks) Next m ≡ true) (c .pool) (upshotOf t .sent Head r Next)
@@ -419,17 +422,17 @@ module _ {c : Chassis} (w : Wf c) where
         let s = Head .cell (r .card) .state in
         let y = cellOf c (r .card) (r .block) in
         let x = place-at (r .card) (r .block) (asks-ok .card) (asks-ok .block) in
-        let from : comesFrom (r .kind) s ≡ true = not-false (comesFrom (r .kind) s) (any→ (not (comesFrom (r .kind) s) ∷ _ ∷ _ ∷ _ ∷ _ ∷ []) i .0) in
-        let a = asking (r .kind) s (x .code) from in
+        let from : comesFrom (r .kind) s ≡ true = not-false (comesFrom (r .kind) s) (any→ (not (comesFrom (r .kind) s) ∷ _ ∷ _ ∷ _ ∷ _ ∷ _ ∷ []) i .0) in
+        let a = asking (r .kind) s (in-states (c .edition) s (x .code)) from in
         let t = turn c r in
         let u = by-outcome t in
         let o = upshotOf t .outcome in
         let no-put : eqb o granted ≡ true → eqb (r .kind) putx ≡ false = λ g. grant-no-put c r (eqb-true o granted g) in
-        turn-wf t
-        (rw (u .asker Next y) (cond-cases (CellWf Next) (eqb o granted) (goesFor Next (grantedTo s) y) _
-        (λ g. goesFor-wf Next Next (grantedTo s) y (a .granted-code (no-put g)) (omega arith)
+        turn-wf t (turn-in c r)
+        (rw (u .asker Next y) (cond-cases (CellWf (c .edition) Next) (eqb o granted) (goesFor Next (grantedTo s) y) _
+        (λ g. goesFor-wf (c .edition) Next Next (grantedTo s) y (a .granted-code (no-put g) (c .edition) (x .code)) (omega arith)
         (imp-i (waits (grantedTo s)) (λ _. next-numbered (c .last))) (rw (a .granted-waits (no-put g))))
-        (λ _. cond-cases (CellWf Next) (eqb o tooSmall) y idle (λ _. grow (c .last) Next y (omega arith) x) (λ _. idle-wf Next))))
+        (λ _. cond-cases (CellWf (c .edition) Next) (eqb o tooSmall) y idle (λ _. grow (c .edition) (c .last) Next y (omega arith) x) (λ _. idle-wf (c .edition) Next))))
         (rw (length-append (c .pool) (upshotOf t .sent Head r Next), u .sent Head r Next)
         (cond-cases (λ p. length (c .pool) + length p ≤ room) (eqb o granted) (dataFor Head r Next ∷ []) []
         (λ g. let lt = leb-false room (length (c .pool)) (rw (no-put g) at full) in omega arith) (λ _. let le = w .pool-room in omega arith)))
@@ -451,7 +454,7 @@ module _ {c : Chassis} (w : Wf c) where
       let b< = leb-false (c .blocks) b (h .1 .0) in
       cell-step k b (storing v (cellOf c k b)) k< b< (stored-wf k b v k< b< (not-false (stores (stateOf c k b)) (h .1 .1 .0)))
   effect-wf (Drop k b) h =
-      cell-step k b idle (leb-false (c .cards) k (h .0)) (leb-false (c .blocks) b (h .1 .0)) (idle-wf (c .last))
+      cell-step k b idle (leb-false (c .cards) k (h .0)) (leb-false (c .blocks) b (h .1 .0)) (idle-wf (c .edition) (c .last))
   effect-wf (Ask k b kind mask) h =
       let known = not-false (leb gets kind && leb kind putx) (h .1 .1 .0) in
       ask-wf k b kind mask (leb-false (c .cards) k (h .0)) (leb-false (c .blocks) b (h .1 .0))

@@ -370,15 +370,17 @@ module _ {c : Chassis} {log : List Did} (inv : Inv c log) where
         (distinct-snoc rest again (apart .1) (apart .0))
 
     -- the message of a grant
-    data-ok : (t : Turn)
+    data-ok : (t : Turn) → eqb (r .kind) putx ≡ false
         → Ordered (c .cards) Head (After t) (r .card) Next [] (pick here (pending (r .block) log) (base (r .block) log))
         → All (λ m. MessageOk Next (replace (c .block) (r .block) (After t) (m .block)) m) (dataFor Head r Next ∷ [])
     unfolding dataFor
-    data-ok t or = (
+    data-ok t no-put or = (
       record {
         given = omega arith;
         carries = λ _. rw (replace-same (c .block) (r .block) (After t))
-            (given-current (inv .blocks-ok (r .block)) (inv .few) free ∙ sym (or .memory-is));
+            (given-current (inv .blocks-ok (r .block)) (inv .few) free (r .card)
+            (asking (r .kind) (Head .cell (r .card) .state) (inv .blocks-ok (r .block) .cells (r .card) .code) (waiting .0) .stores-not no-put)
+            ∙ sym (or .memory-is));
       },
       tt,
     )
@@ -410,7 +412,7 @@ module _ {c : Chassis} {log : List Did} (inv : Inv c log) where
     order-head-ok : Keeps Order (orderHead c r rest)
     unfolding orderHead didAccepted pending base
     order-head-ok = turn-cases c r Next (inv .blocks-ok (r .block)) (inv .few) free (waiting .0) (λ t. Keeps Order (At t))
-        (λ t e or. at-outcome t granted e (settles-ok t or (dataFor Head r Next ∷ []) (data-ok t or)))
+        (λ t e p or. at-outcome t granted e (settles-ok t or (dataFor Head r Next ∷ []) (data-ok t p or)))
         (λ t e or. at-outcome t tooSmall e (returned t or (asker-stays t e)))
         (λ t e or. at-outcome t putTaken e (settles-ok t or [] tt))
         (λ t e or. at-outcome t putLapsed e (leaves t quiet only-quiet or [] tt))

@@ -49,6 +49,12 @@ and-i p q = rw (p, q)
 pub or-i : {a b : Bool} → (a ≡ false → b ≡ true) → (a || b) ≡ true
 or-i {a} {b} h = test a (λ p. rw p) (λ p. rw p (h p))
 
+pub or-l : (a b : Bool) → (a || b) ≡ false → a ≡ false
+or-l a b h = test a (λ p. absurd (clash (or-i {a = a} {b = b} (λ q. absurd (clash p q))) h)) (λ p. p)
+
+pub or-r : (a b : Bool) → (a || b) ≡ false → b ≡ false
+or-r a b h = test b (λ p. absurd (clash (or-i {a = a} {b = b} (λ _. p)) h)) (λ p. p)
+
 -- ⇒
 
 pub imp : {a b : Bool} → (a ⇒ b) ≡ true → a ≡ true → b ≡ true

@@ -6,6 +6,8 @@ use lib.ListN.{getD}
 use Rattle.rules.specs.Lists.{replace}
 use Rattle.rules.specs.Numbers.{home, noNumber, firstRetry, I}
 use Rattle.rules.specs.Table.{loads}
+use Rattle.rules.specs.declared.Edition.{Edition}
+use Rattle.rules.specs.declared.Edition.the-variants.{Msi}
 use Rattle.rules.specs.declared.OrderNo.{OrderNo}
 use Rattle.rules.specs.declared.RetryNo.{RetryNo}
 use Rattle.rules.specs.declared.Cell.{Cell}
@@ -19,8 +21,9 @@ pub record Block : Type 0 where
   pub sharers : ℕ
   pub cell : ℕ → Cell
 
--- the line's and the pool's heads stand first
+-- the line's and the pool's heads stand first; R-1: "the MOSI edition beside MSI, chosen at Start"
 pub record Chassis : Type 0 where
+  pub edition : Edition
   pub cards : ℕ
   pub blocks : ℕ
   pub block : ℕ → Block
@@ -48,8 +51,9 @@ aMessage sender receiver block value number = record {
 abbrev pub aBlock : ℕ → ℕ → ℕ → (ℕ → Cell) → Block
 aBlock memory owner sharers cell = record { memory = memory; owner = owner; sharers = sharers; cell = cell }
 
-abbrev pub aChassis : ℕ → ℕ → (ℕ → Block) → List Request → List Message → OrderNo → Chassis
-aChassis cards blocks block line pool last = record {
+abbrev pub aChassis : Edition → ℕ → ℕ → (ℕ → Block) → List Request → List Message → OrderNo → Chassis
+aChassis edition cards blocks block line pool last = record {
+  edition = edition;
   cards = cards;
   blocks = blocks;
   block = block;
@@ -84,9 +88,13 @@ unusedRequest = aRequest 0 0 0 0 firstRetry
 abbrev pub unusedMessage : Message
 unusedMessage = aMessage 0 0 0 0 noNumber
 
--- a chassis of so many cards and blocks, just started
-abbrev pub fresh : ℕ → ℕ → Chassis
-fresh cards blocks = aChassis cards blocks (λ b. freshBlock) [] [] noNumber
+-- a chassis of this edition and of so many cards and blocks, just started
+abbrev pub fresh : Edition → ℕ → ℕ → Chassis
+fresh edition cards blocks = aChassis edition cards blocks (λ b. freshBlock) [] [] noNumber
+
+-- "one of 0 cards and 0 blocks, all places unused"
+abbrev pub noChassis : Chassis
+noChassis = fresh Msi 0 0
 
 -- the message at a position; an unused one is refused before it is looked at
 abbrev pub messageOf : Chassis → ℕ → Message
@@ -117,9 +125,9 @@ withHome B memory owner sharers = aBlock memory owner sharers (B .cell)
 
 -- A chassis that changes
 
--- of the same cards and blocks, with all else anew
+-- of the same edition, cards and blocks, with all else anew
 abbrev pub like : Chassis → (ℕ → Block) → List Request → List Message → OrderNo → Chassis
-like c block line pool last = aChassis (c .cards) (c .blocks) block line pool last
+like c block line pool last = aChassis (c .edition) (c .cards) (c .blocks) block line pool last
 
 -- with block b, the line, the pool and the last number anew
 abbrev pub changed : Chassis → ℕ → Block → List Request → List Message → OrderNo → Chassis

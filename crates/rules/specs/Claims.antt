@@ -5,7 +5,7 @@ use mathlib.Core.List.{List}
 use mathlib.Core.Path.{_≡_}
 use Rattle.rules.specs.Tests.{allOf}
 use Rattle.rules.specs.Numbers.{lastNumber}
-use Rattle.rules.specs.Chassis.{Chassis, fresh}
+use Rattle.rules.specs.Chassis.{Chassis, noChassis}
 use Rattle.rules.specs.Answers.{result}
 use Rattle.rules.specs.Formed.{wellFormed}
 use Rattle.rules.specs.Events.{step, start}
@@ -15,19 +15,20 @@ use Rattle.rules.specs.Marked.{plays, markedTable, slips}
 use Rattle.rules.specs.declared.Answer.the-variants.{Done, Refused}
 use Rattle.rules.specs.declared.Refusal.{Refusal}
 use Rattle.rules.specs.declared.Refusal.the-variants.{IllFormed}
+use Rattle.rules.specs.declared.Edition.{Edition}
 use Rattle.rules.specs.declared.Event.{Event}
 
 -- a contract that says what the answer equals leaves no second one
 abbrev pub One-answer : Type 1
 One-answer = (A : Type 0) (d r r′ : A) → r ≡ d → r′ ≡ d → r ≡ r′
 
--- M1 to M10
+-- M1 to M16
 abbrev pub Marked-hold : Type 0
-Marked-hold = allOf markedTable (plays (fresh 0 0)) ≡ true
+Marked-hold = allOf markedTable (plays noChassis) ≡ true
 
--- the slips that M1 to M10 do not show
+-- the slips that M1 to M16 do not show
 abbrev pub Slips-hold : Type 0
-Slips-hold = allOf slips (plays (fresh 0 0)) ≡ true
+Slips-hold = allOf slips (plays noChassis) ≡ true
 
 -- the customer's first demand: "A refused event changes nothing in the chassis"
 abbrev pub Refused-keeps : Type 0
@@ -35,12 +36,12 @@ Refused-keeps = (c : Chassis) (e : Event) (r : Refusal) → step c e .answer ≡
 
 -- an accepted Start makes a well formed state
 abbrev pub Start-formed : Type 0
-Start-formed = (cards blocks v : ℕ) → start cards blocks .answer ≡ Done v → wellFormed (start cards blocks .after) ≡ true
+Start-formed = (e : Edition) (cards blocks v : ℕ) → start e cards blocks .answer ≡ Done v → wellFormed (start e cards blocks .after) ≡ true
 
 -- a refused Start answers the state of 0 cards and 0 blocks, which every event refuses with 15
 abbrev pub Refused-start : Type 0
-Refused-start = (cards blocks : ℕ) (r : Refusal) → start cards blocks .answer ≡ Refused r → (start cards blocks .after ≡ fresh 0 0)
-    × ((e : Event) → step (fresh 0 0) e ≡ result (Refused IllFormed) (fresh 0 0))
+Refused-start = (e : Edition) (cards blocks : ℕ) (r : Refusal) → start e cards blocks .answer ≡ Refused r → (start e cards blocks .after ≡ noChassis)
+    × ((v : Event) → step noChassis v ≡ result (Refused IllFormed) noChassis)
 
 -- a well formed state stays well formed under every event
 abbrev pub Stays-formed : Type 0
@@ -51,7 +52,7 @@ abbrev pub Never-set-back : Type 0
 Never-set-back = (c : Chassis) (e : Event) → c .last .0 ≤ lastNumber .0
     → (c .last .0 ≤ step c e .after .last .0) × (step c e .after .last .0 ≤ lastNumber .0)
 
--- Demand 3: "In any sequence of events other than Start from a freshly started chassis"
+-- Demand 3, of both editions: "In any sequence of events other than Start from a freshly started chassis"
 abbrev pub Rules-coherent : Type 0
-Rules-coherent = (cards blocks v : ℕ) → start cards blocks .answer ≡ Done v
-    → (es : List Event) → Coherent (run (start cards blocks .after) es)
+Rules-coherent = (e : Edition) (cards blocks v : ℕ) → start e cards blocks .answer ≡ Done v
+    → (es : List Event) → Coherent (run (start e cards blocks .after) es)

@@ -18,6 +18,7 @@ use Rattle.rules.specs.Chassis.{
   stateOf,
   idle,
   fresh,
+  noChassis,
   messageOf,
   goes,
   storing,
@@ -30,6 +31,7 @@ use Rattle.rules.specs.Chassis.{
 use Rattle.rules.specs.Answers.{Result, result, Reason, _if_, refusedBy}
 use Rattle.rules.specs.Order.{order, orderReasons}
 use Rattle.rules.specs.Formed.{sizes, wellFormed}
+use Rattle.rules.specs.declared.Edition.{Edition}
 use Rattle.rules.specs.declared.Cell.{Cell}
 use Rattle.rules.specs.declared.Message.{Message}
 use Rattle.rules.specs.declared.Answer.the-variants.{Done}
@@ -125,7 +127,8 @@ deliver c i m =
 
 -- Rejoin
 
--- "its cells become I", "it leaves all sharer sets, blocks it owns go to home"; "Memory .. stay"
+-- "its cells become I", "it leaves all sharer sets, blocks it owns go to home"; "Memory .. stay". R-1: "On Rejoin of an O owner home takes the
+-- block and the other sharers stay."
 unfoldable pub rejoinBlock : ℕ → Block → Block
 rejoinBlock k B = aBlock (B .memory) (cond (eqb (B .owner) k) home (B .owner)) (without (B .sharers) (only k)) (replace (B .cell) k idle)
 
@@ -164,5 +167,5 @@ unfoldable pub step : Chassis → Event → Result
 step c e = refusedBy c ((IllFormed if not (wellFormed c)) ∷ reasons c e) (effect c e)
 
 -- Start: 14 "outside 1 to 8 cards or 1 to 32 blocks; whatever refuses to make a state answers one of 0 cards and 0 blocks, all places unused"
-unfoldable pub start : ℕ → ℕ → Result
-start cards blocks = refusedBy (fresh 0 0) ((NoSuchSize if not (sizes cards blocks)) ∷ []) (result (Done 0) (fresh cards blocks))
+unfoldable pub start : Edition → ℕ → ℕ → Result
+start e cards blocks = refusedBy noChassis ((NoSuchSize if not (sizes cards blocks)) ∷ []) (result (Done 0) (fresh e cards blocks))

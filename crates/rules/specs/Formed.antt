@@ -19,10 +19,11 @@ use Rattle.rules.specs.Numbers.{
   upToRetry,
   gets,
   putx,
-  states,
+  statesIn,
 }
 use Rattle.rules.specs.Table.{loads, waits}
 use Rattle.rules.specs.Chassis.{Block, Chassis, idle, freshBlock}
+use Rattle.rules.specs.declared.Edition.{Edition}
 use Rattle.rules.specs.declared.OrderNo.{OrderNo}
 use Rattle.rules.specs.declared.Cell.{Cell}
 use Rattle.rules.specs.declared.Request.{Request}
@@ -37,10 +38,10 @@ unfoldable pub homeOrCard : ℕ → ℕ → Bool
 homeOrCard cards k = eqb k home || ltb k cards
 
 -- a cell of a card that is there, where last is the last order number given
-unfoldable pub okCell : OrderNo → Cell → Bool
-okCell last x = each (
-    -- "a .. code .. out of range"
-    ltb (x .state) states ∷
+unfoldable pub okCell : Edition → OrderNo → Cell → Bool
+okCell e last x = each (
+    -- "a .. code .. out of range"; R-1: "in MSI states 11 to 13 are ill formed"
+    ltb (x .state) (statesIn e) ∷
     -- "an order number above the last given"
     upToNumber (x .awaits) last ∷
     -- "an awaited number of 0 in 6, 7 or 8"
@@ -58,13 +59,13 @@ unusedCell x = each (
     sameNumber (x .awaits) (idle .awaits) ∷ [])
 
 -- a block that is there
-unfoldable pub okBlock : ℕ → OrderNo → Block → Bool
-okBlock cards last B = each (
+unfoldable pub okBlock : Edition → ℕ → OrderNo → Block → Bool
+okBlock e cards last B = each (
     -- "a .. card .. out of range"
     homeOrCard cards (B .owner) ∷
     -- "a .. mask .. out of range"
     inside cards (B .sharers) ∷
-    all mostCards (λ k. cond (ltb k cards) (okCell last (B .cell k)) (unusedCell (B .cell k))) ∷ [])
+    all mostCards (λ k. cond (ltb k cards) (okCell e last (B .cell k)) (unusedCell (B .cell k))) ∷ [])
 
 -- an unused block, as Start makes it
 unfoldable pub unusedBlock : Block → Bool
@@ -110,4 +111,4 @@ wellFormed c = each (
     allOf (c .line) (okRequest (c .cards) (c .blocks)) ∷
     allOf (c .pool) (okMessage (c .cards) (c .blocks) (c .last)) ∷
     -- "or an unused place not as Start makes it"
-    all mostBlocks (λ b. cond (ltb b (c .blocks)) (okBlock (c .cards) (c .last) (c .block b)) (unusedBlock (c .block b))) ∷ [])
+    all mostBlocks (λ b. cond (ltb b (c .blocks)) (okBlock (c .edition) (c .cards) (c .last) (c .block b)) (unusedBlock (c .block b))) ∷ [])

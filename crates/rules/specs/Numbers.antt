@@ -2,6 +2,8 @@
 use Prim.Native.Nat.{ℕ, suc, _-_, _^_}
 use mathlib.Core.Bool.{Bool}
 use lib.Dec.{eqb, leb}
+use Rattle.rules.specs.declared.Edition.{Edition}
+use Rattle.rules.specs.declared.Edition.the-variants.{Msi, Mosi}
 use Rattle.rules.specs.declared.OrderNo.{OrderNo}
 use Rattle.rules.specs.declared.RetryNo.{RetryNo}
 
@@ -113,9 +115,28 @@ MI-A = 9
 abbrev pub II-A : ℕ
 II-A = 10
 
--- how many states there are
+-- R-1: "a new state O", and those of its upgrade and its put
+abbrev pub O : ℕ
+O = 11
+
+abbrev pub OM-AD : ℕ
+OM-AD = 12
+
+abbrev pub OI-A : ℕ
+OI-A = 13
+
+-- the editions by number, where a word or a byte stands for one
+abbrev pub editionNo : Edition → ℕ
+editionNo Msi = 0
+editionNo Mosi = 1
+
+-- how many states there are; R-1: "in MSI states 11 to 13 are ill formed"
 abbrev pub states : ℕ
-states = 11
+states = 14
+
+abbrev pub statesIn : Edition → ℕ
+statesIn Msi = 11
+statesIn Mosi = states
 
 -- an empty place of the card state table
 abbrev pub none : ℕ

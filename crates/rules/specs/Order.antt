@@ -30,7 +30,9 @@ use Rattle.rules.specs.Table.{
   isReader,
   canGive,
   comesFrom,
+  upgrades,
   putStands,
+  leavesSharers,
   grantedTo,
 }
 use Rattle.rules.specs.Chassis.{
@@ -45,6 +47,7 @@ use Rattle.rules.specs.Chassis.{
   changed,
 }
 use Rattle.rules.specs.Answers.{Result, result, Reason, _if_}
+use Rattle.rules.specs.declared.Edition.{Edition}
 use Rattle.rules.specs.declared.OrderNo.{OrderNo}
 use Rattle.rules.specs.declared.RetryNo.{RetryNo}
 use Rattle.rules.specs.declared.Cell.{Cell}
@@ -81,13 +84,14 @@ impossible B r =
     let from = B .cell q .state in
     let isPut = eqb (r .kind) putx in
     any (
-    -- "GETS not from 3, GETX not from 4 or 5, PUTX not from 9 or 10"
+    -- "GETS not from 3, GETX not from 4 or 5, PUTX not from 9 or 10", R-1: "GETX may come from 12 and PUTX from 13"
     not (comesFrom (r .kind) from) ∷
-    -- "for GETS and GETX the owner is q"
-    (not isPut && eqb (B .owner) q) ∷
-    -- "or a card not in 2 or 9"
+    -- "for GETS and GETX the owner is q"; R-1: from 12 "only with q as owner"
+    (not isPut && not (upgrades from) && eqb (B .owner) q) ∷
+    (not isPut && upgrades from && not (eqb (B .owner) q)) ∷
+    -- "or a card not in 2 or 9", R-1: "the owner may be in 11 to 13"
     (not isPut && not (eqb (B .owner) home) && not (canGive (B .cell (B .owner) .state))) ∷
-    -- "PUTX from 9 with another owner"
+    -- "PUTX from 9 with another owner", R-1: from 13 "only with q as owner"
     (isPut && putStands from && not (eqb (B .owner) q)) ∷
     -- "or from 10 with q as owner"
     (isPut && not (putStands from) && eqb (B .owner) q) ∷ [])
@@ -113,7 +117,7 @@ turn c r =
     cond (eqb (r .kind) putx)
     (cond (putStands (B .cell (r .card) .state)) PutTaken PutLapsed)
     (cond (suffices (c .cards) B r)
-    (cond (eqb (r .kind) gets) GetsGranted GetxGranted)
+    (cond (eqb (r .kind) gets) (GetsGranted (c .edition)) GetxGranted)
     (cond (eqb (r .kind) gets) GetsMissed GetxMissed))
 
 -- What a turn does
@@ -182,39 +186,50 @@ goesBack f u = upshot (u .outcome) (u .memory) (u .owner) (u .sharers) (u .asker
 
 -- Grants
 
+-- who gives the data to q: the old owner; R-1: of an upgrade "data from memory, sender home"
+unfoldable pub giver : Block → ℕ → ℕ
+giver B q = cond (eqb (B .owner) q) home (B .owner)
+
 -- what an owning card gives away, or else memory's value
-unfoldable pub given : Block → ℕ
-given B = cond (eqb (B .owner) home) (B .memory) (B .cell (B .owner) .value)
+unfoldable pub given : Block → ℕ → ℕ
+given B q = cond (eqb (giver B q) home) (B .memory) (B .cell (giver B q) .value)
 
 -- "Every grant puts one message at the pool's tail: sender (old owner), receiver q, block, memory's value, order number."
 unfoldable pub dataFor : Block → Request → OrderNo → Message
-dataFor B r n = aMessage (B .owner) (r .card) (r .block) (given B) n
+dataFor B r n = aMessage (giver B (r .card)) (r .card) (r .block) (given B (r .card)) n
 
 -- "q goes to 6", "from 4 to 7 or from 5 to 8"; "q awaits that number"
 abbrev pub grantedCell : OrderNo → Cell → Cell
 grantedCell n x = goesFor n (grantedTo (x .state)) x
 
--- "the sharers become that card and q .. With home as owner, q joins the sharers"
-abbrev pub sharersWith : Block → ℕ → ℕ
-sharersWith B q = union (cond (eqb (B .owner) home) (B .sharers) (only (B .owner))) (only q)
+-- R-1: an owner that sees GETS and is still in a state that can give "keeps the ownership": home's part follows from where it goes
+unfoldable pub keeps : Edition → Block → Bool
+keeps e B = canGive (seesGets e (B .cell (B .owner) .state))
+
+-- "the sharers become that card and q .. With home as owner, q joins the sharers"; R-1: beside an owner that keeps it "the asker joins the
+-- sharers"
+abbrev pub sharersWith : Edition → Block → ℕ → ℕ
+sharersWith e B q = union (cond (eqb (B .owner) home || keeps e B) (B .sharers) (only (B .owner))) (only q)
 
 -- "Granted GETS (outcome 1): an owning card moves by the table, its value goes to memory, the sharers become that card and q, the owner
--- becomes home. With home as owner, q joins the sharers. q goes to 6."
-abbrev pub grantedGets : Upshot
-grantedGets = staysAt granted
-    but ownerMoves seesGets
-    but memoryTakes (λ B q. given B)
-    but sharersBecome sharersWith
-    but ownerBecomes (λ B q. home)
+-- becomes home. With home as owner, q joins the sharers. q goes to 6." R-1: "An M owner that sees GETS goes to a new state O: it keeps the
+-- ownership ..; memory still gets the value"
+abbrev pub grantedGets : Edition → Upshot
+grantedGets e = staysAt granted
+    but ownerMoves (seesGets e)
+    but memoryTakes given
+    but sharersBecome (sharersWith e)
+    but ownerBecomes (λ B q. cond (keeps e B) (B .owner) home)
     but askerGoes grantedCell
     but sends dataFor
 
 -- "Granted GETX (outcome 1): an owning card moves by the table, its value goes to memory. Cards in the mask, other than q, in states 1 and 5
--- move by the table. The owner becomes q, the sharers none. q goes from 4 to 7 or from 5 to 8."
+-- move by the table. The owner becomes q, the sharers none. q goes from 4 to 7 or from 5 to 8." R-1: "Another's granted GETX takes 11, 12, 13 to
+-- 0, 4, 10"; an upgrade goes from 12 to 8.
 abbrev pub grantedGetx : Upshot
 grantedGetx = staysAt granted
     but ownerMoves seesGetx
-    but memoryTakes (λ B q. given B)
+    but memoryTakes given
     but readersMove seesGetx
     but ownerBecomes (λ B q. q)
     but sharersBecome (λ B q. 0)
@@ -239,7 +254,8 @@ abbrev pub missedGets : Upshot
 missedGets = staysAt tooSmall
     but goesBack retried
 
--- "For GETX the cards in the old mask, other than q, in states 1 and 5 still move by the table; nothing else does."
+-- "For GETX the cards in the old mask, other than q, in states 1 and 5 still move by the table; nothing else does." R-1: "one not granted
+-- moves none of" 11, 12, 13
 abbrev pub missedGetx : Upshot
 missedGetx = staysAt tooSmall
     but goesBack retried
@@ -247,12 +263,13 @@ missedGetx = staysAt tooSmall
 
 -- Puts: "PUTX ignores the mask."
 
--- "From 9 (outcome 3): memory takes the value, the owner becomes home, the sharers none, q goes to 0."
+-- "From 9 (outcome 3): memory takes the value, the owner becomes home, the sharers none, q goes to 0." R-1: "A put from 13 (outcome 3) leaves
+-- the sharers listed."
 abbrev pub takenPut : Upshot
 takenPut = staysAt putTaken
     but memoryTakes (λ B q. B .cell q .value)
     but ownerBecomes (λ B q. home)
-    but sharersBecome (λ B q. 0)
+    but sharersBecome (λ B q. cond (leavesSharers (B .cell q .state)) (B .sharers) 0)
     but askerGoes (λ n x. idle)
 
 -- "From 10 (outcome 4): q goes to 0, and home changes nothing."
@@ -263,7 +280,7 @@ lapsedPut = staysAt putLapsed
 -- The whole
 
 unfoldable pub upshotOf : Turn → Upshot
-upshotOf GetsGranted = grantedGets
+upshotOf (GetsGranted e) = grantedGets e
 upshotOf GetxGranted = grantedGetx
 upshotOf GetsMissed = missedGets
 upshotOf GetxMissed = missedGetx

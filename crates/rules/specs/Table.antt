@@ -16,27 +16,37 @@ use Rattle.rules.specs.Numbers.{
   SM-D,
   MI-A,
   II-A,
+  O,
+  OM-AD,
+  OI-A,
   none,
 }
+use Rattle.rules.specs.declared.Edition.{Edition}
+use Rattle.rules.specs.declared.Edition.the-variants.{Msi, Mosi}
 
--- a row: the rights, where an ask of each kind leads, where a seen request leads
+-- a row: the rights, where an ask of each kind leads, where a seen request leads; GETS leads an owner elsewhere in each edition
 pub record Row : Type 0 where
   pub load : Bool
   pub store : Bool
   pub askGets : ℕ
   pub askGetx : ℕ
   pub askPutx : ℕ
-  pub seeGets : ℕ
+  pub seeGets : Edition → ℕ
   pub seeGetx : ℕ
 
-abbrev row : Bool → Bool → ℕ → ℕ → ℕ → ℕ → ℕ → Row
-row load store askGets askGetx askPutx seeGets seeGetx = record {
+-- an entry of the table in MSI, and in MOSI
+abbrev inEdition : ℕ → ℕ → Edition → ℕ
+inEdition msi mosi Msi = msi
+inEdition msi mosi Mosi = mosi
+
+abbrev row : Bool → Bool → ℕ → ℕ → ℕ → ℕ → ℕ → ℕ → Row
+row load store askGets askGetx askPutx msiGets mosiGets seeGetx = record {
   load = load;
   store = store;
   askGets = askGets;
   askGetx = askGetx;
   askPutx = askPutx;
-  seeGets = seeGets;
+  seeGets = inEdition msiGets mosiGets;
   seeGetx = seeGetx;
 }
 
@@ -50,26 +60,31 @@ abbrev – : Bool
 abbrev · : ℕ
 · = none
 
--- Load, Store; where GETS, GETX, PUTX lead; sees GETS as owner, sees another's GETX
+-- Load, Store; where GETS, GETX, PUTX lead; sees GETS as owner in MSI, in MOSI; sees another's GETX. R-1: "An M owner that sees GETS goes to a new
+-- state O: it keeps the ownership and loads but doesn't store"; "MI_A that sees GETS goes to 13"; "O (state 11) may ask GETX (an upgrade, to
+-- 12 ..) and PUTX (to 13). 12 and 13 load too; all three stay on GETS"; "Another's granted GETX takes 11, 12, 13 to 0, 4, 10"
 unfoldable pub cardTable : List Row
 cardTable =
-    row – – 3 4 · · · ∷  -- 0 I
-    row ✓ – · 5 · · 0 ∷  -- 1 S
-    row ✓ ✓ · · 9 1 0 ∷  -- 2 M
-    row – – · · · · · ∷  -- 3 IS_AD
-    row – – · · · · · ∷  -- 4 IM_AD
-    row ✓ – · · · · 4 ∷  -- 5 SM_AD
-    row – – · · · · · ∷  -- 6 IS_D
-    row – – · · · · · ∷  -- 7 IM_D
-    row ✓ – · · · · · ∷  -- 8 SM_D
-    row ✓ ✓ · · · 10 10 ∷  -- 9 MI_A
-    row – – · · · · · ∷  -- 10 II_A
+    row – – 3 4 · · · · ∷  -- 0 I
+    row ✓ – · 5 · · · 0 ∷  -- 1 S
+    row ✓ ✓ · · 9 1 11 0 ∷  -- 2 M
+    row – – · · · · · · ∷  -- 3 IS_AD
+    row – – · · · · · · ∷  -- 4 IM_AD
+    row ✓ – · · · · · 4 ∷  -- 5 SM_AD
+    row – – · · · · · · ∷  -- 6 IS_D
+    row – – · · · · · · ∷  -- 7 IM_D
+    row ✓ – · · · · · · ∷  -- 8 SM_D
+    row ✓ ✓ · · · 10 13 10 ∷  -- 9 MI_A
+    row – – · · · · · · ∷  -- 10 II_A
+    row ✓ – · 12 13 · · 0 ∷  -- 11 O
+    row ✓ – · · · · · 4 ∷  -- 12 OM_AD
+    row ✓ – · · · · · 10 ∷  -- 13 OI_A
     []
 
 -- the row of a state; what is no state has an empty row
 unfoldable pub rowOf : ℕ → Row
 unfolding cardTable
-rowOf s = getD cardTable s (row – – · · · · ·)
+rowOf s = getD cardTable s (row – – · · · · · ·)
 
 -- The columns
 
@@ -105,9 +120,9 @@ unfoldable pub moved : ℕ → ℕ → ℕ
 moved s t = cond (eqb t none) s t
 
 -- where a state goes that sees GETS as owner, or another's GETX
-unfoldable pub seesGets : ℕ → ℕ
+unfoldable pub seesGets : Edition → ℕ → ℕ
 unfolding rowOf moved
-seesGets s = moved s (rowOf s .seeGets)
+seesGets e s = moved s (rowOf s .seeGets e)
 
 unfoldable pub seesGetx : ℕ → ℕ
 unfolding rowOf moved
@@ -130,27 +145,38 @@ unfoldable pub isReader : ℕ → Bool
 unfolding oneOf
 isReader s = oneOf (S ∷ SM-AD ∷ []) s
 
--- "in 2 or 9": an owner that can give its value away
+-- "in 2 or 9", R-1: "the owner may be in 11 to 13": an owner that can give its value away
 unfoldable pub canGive : ℕ → Bool
 unfolding oneOf
-canGive s = oneOf (M ∷ MI-A ∷ []) s
+canGive s = oneOf (M ∷ MI-A ∷ O ∷ OM-AD ∷ OI-A ∷ []) s
 
--- where a request of each kind comes from: what is "GETS not from 3, GETX not from 4 or 5, PUTX not from 9 or 10" is impossible
+-- where a request of each kind comes from: what is "GETS not from 3, GETX not from 4 or 5, PUTX not from 9 or 10" is impossible; R-1: "GETX may
+-- come from 12 and PUTX from 13"
 abbrev pub askers : List (List ℕ)
-askers = [] ∷ (IS-AD ∷ []) ∷ (IM-AD ∷ SM-AD ∷ []) ∷ (MI-A ∷ II-A ∷ []) ∷ []
+askers = [] ∷ (IS-AD ∷ []) ∷ (IM-AD ∷ SM-AD ∷ OM-AD ∷ []) ∷ (MI-A ∷ II-A ∷ OI-A ∷ []) ∷ []
 
 unfoldable pub comesFrom : ℕ → ℕ → Bool
 unfolding oneOf
 comesFrom kind s = oneOf (getD askers kind []) s
 
--- "PUTX .. From 9": the put stands; from 10 it has lapsed
+-- R-1: "an upgrade, to 12": a GETX of the owner's own
+unfoldable pub upgrades : ℕ → Bool
+unfolding oneOf
+upgrades s = oneOf (OM-AD ∷ []) s
+
+-- "PUTX .. From 9", R-1: "A put from 13 (outcome 3)": the put stands; from 10 it has lapsed
 unfoldable pub putStands : ℕ → Bool
 unfolding oneOf
-putStands s = oneOf (MI-A ∷ []) s
+putStands s = oneOf (MI-A ∷ OI-A ∷ []) s
 
--- a granted GETS: "q goes to 6"; a granted GETX: "q goes from 4 to 7 or from 5 to 8"
+-- R-1: "A put from 13 .. leaves the sharers listed"
+unfoldable pub leavesSharers : ℕ → Bool
+unfolding oneOf
+leavesSharers s = oneOf (OI-A ∷ []) s
+
+-- a granted GETS: "q goes to 6"; a granted GETX: "q goes from 4 to 7 or from 5 to 8"; R-1: 12 goes "when granted to 8"
 abbrev pub grantedStates : List ℕ
-grantedStates = none ∷ none ∷ none ∷ IS-D ∷ IM-D ∷ SM-D ∷ []
+grantedStates = none ∷ none ∷ none ∷ IS-D ∷ IM-D ∷ SM-D ∷ none ∷ none ∷ none ∷ none ∷ none ∷ none ∷ SM-D ∷ []
 
 unfoldable pub grantedTo : ℕ → ℕ
 grantedTo s = getD grantedStates s none

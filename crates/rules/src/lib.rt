@@ -9,6 +9,12 @@ pub struct OrderNo(pub u64);
 // A retry number: how often a request has gone back to the line. No reply is matched by it.
 pub struct RetryNo(pub u8);
 
+// The edition of the protocol, chosen at Start.
+pub enum Edition {
+    Msi,
+    Mosi,
+}
+
 // A set of cards: bit k is card k.
 pub type Mask = u8;
 
@@ -102,9 +108,9 @@ pub enum Answer {
     Refused(Refusal),
 }
 
-// What comes of the request at the head of the line.
+// What comes of the request at the head of the line. What a granted GETS does goes by the edition.
 pub enum Turn {
-    GetsGranted,
+    GetsGranted(Edition),
     GetxGranted,
     GetsMissed,
     GetxMissed,

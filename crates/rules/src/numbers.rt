@@ -7,7 +7,10 @@ pub const MOST_BLOCKS: u8 = 32;
 
 pub const ROOM: usize = 64;
 
-pub const STATES: usize = 11;
+pub const STATES: usize = 14;
+
+// The states of a chassis of MSI are the first of them.
+pub const MSI_STATES: usize = 11;
 
 // Home, where a card number would stand.
 pub const HOME: u8 = 255;
@@ -46,6 +49,12 @@ pub const SM_D: u8 = 8;
 pub const MI_A: u8 = 9;
 
 pub const II_A: u8 = 10;
+
+pub const O: u8 = 11;
+
+pub const OM_AD: u8 = 12;
+
+pub const OI_A: u8 = 13;
 
 // No such ask, or no move: an empty place of the table.
 pub const NONE: u8 = 255;

@@ -1,5 +1,6 @@
 // The card state table: a constant array for each column, read by a small function that takes any byte.
 // What a byte above the last state gives is what an empty row would.
+use crate::Edition;
 use crate::numbers::GETS;
 use crate::numbers::GETX;
 use crate::numbers::I;
@@ -11,6 +12,9 @@ use crate::numbers::IS_D;
 use crate::numbers::M;
 use crate::numbers::MI_A;
 use crate::numbers::NONE;
+use crate::numbers::O;
+use crate::numbers::OI_A;
+use crate::numbers::OM_AD;
 use crate::numbers::PUTX;
 use crate::numbers::S;
 use crate::numbers::SM_AD;
@@ -36,7 +40,9 @@ ghost use Rattle.rules.specs.Table.{
   isReader,
   canGive,
   comesFrom,
+  upgrades,
   putStands,
+  leavesSharers,
   grantedTo,
   filledTo,
 };
@@ -55,6 +61,9 @@ const LOADS: [bool; STATES] = [
     true, // SM_D
     true, // MI_A
     false, // II_A
+    true, // O
+    true, // OM_AD
+    true, // OI_A
 ];
 
 const STORES: [bool; STATES] = [
@@ -69,6 +78,9 @@ const STORES: [bool; STATES] = [
     false, // SM_D
     true, // MI_A
     false, // II_A
+    false, // O
+    false, // OM_AD
+    false, // OI_A
 ];
 
 // The next state, where each kind of ask leads
@@ -85,6 +97,9 @@ const ASKS_GETS: [u8; STATES] = [
     NONE, // SM_D
     NONE, // MI_A
     NONE, // II_A
+    NONE, // O
+    NONE, // OM_AD
+    NONE, // OI_A
 ];
 
 const ASKS_GETX: [u8; STATES] = [
@@ -99,6 +114,9 @@ const ASKS_GETX: [u8; STATES] = [
     NONE, // SM_D
     NONE, // MI_A
     NONE, // II_A
+    OM_AD, // O
+    NONE, // OM_AD
+    NONE, // OI_A
 ];
 
 const ASKS_PUTX: [u8; STATES] = [
@@ -113,11 +131,14 @@ const ASKS_PUTX: [u8; STATES] = [
     NONE, // SM_D
     NONE, // MI_A
     NONE, // II_A
+    OI_A, // O
+    NONE, // OM_AD
+    NONE, // OI_A
 ];
 
 // The next state, where a seen request leads
 
-const SEES_GETS: [u8; STATES] = [
+const SEES_GETS_MSI: [u8; STATES] = [
     NONE, // I
     NONE, // S
     S, // M
@@ -129,6 +150,26 @@ const SEES_GETS: [u8; STATES] = [
     NONE, // SM_D
     II_A, // MI_A
     NONE, // II_A
+    NONE, // O
+    NONE, // OM_AD
+    NONE, // OI_A
+];
+
+const SEES_GETS_MOSI: [u8; STATES] = [
+    NONE, // I
+    NONE, // S
+    O, // M
+    NONE, // IS_AD
+    NONE, // IM_AD
+    NONE, // SM_AD
+    NONE, // IS_D
+    NONE, // IM_D
+    NONE, // SM_D
+    OI_A, // MI_A
+    NONE, // II_A
+    NONE, // O
+    NONE, // OM_AD
+    NONE, // OI_A
 ];
 
 const SEES_GETX: [u8; STATES] = [
@@ -143,6 +184,9 @@ const SEES_GETX: [u8; STATES] = [
     NONE, // SM_D
     II_A, // MI_A
     NONE, // II_A
+    I, // O
+    IM_AD, // OM_AD
+    II_A, // OI_A
 ];
 
 // States that the rules name
@@ -159,6 +203,9 @@ const DROPS: [bool; STATES] = [
     false, // SM_D
     false, // MI_A
     false, // II_A
+    false, // O
+    false, // OM_AD
+    false, // OI_A
 ];
 
 const WAITS: [bool; STATES] = [
@@ -173,6 +220,9 @@ const WAITS: [bool; STATES] = [
     true, // SM_D
     false, // MI_A
     false, // II_A
+    false, // O
+    false, // OM_AD
+    false, // OI_A
 ];
 
 const READERS: [bool; STATES] = [
@@ -187,6 +237,9 @@ const READERS: [bool; STATES] = [
     false, // SM_D
     false, // MI_A
     false, // II_A
+    false, // O
+    false, // OM_AD
+    false, // OI_A
 ];
 
 const CAN_GIVE: [bool; STATES] = [
@@ -201,6 +254,9 @@ const CAN_GIVE: [bool; STATES] = [
     false, // SM_D
     true, // MI_A
     false, // II_A
+    true, // O
+    true, // OM_AD
+    true, // OI_A
 ];
 
 const FROM_GETS: [bool; STATES] = [
@@ -215,6 +271,9 @@ const FROM_GETS: [bool; STATES] = [
     false, // SM_D
     false, // MI_A
     false, // II_A
+    false, // O
+    false, // OM_AD
+    false, // OI_A
 ];
 
 const FROM_GETX: [bool; STATES] = [
@@ -229,6 +288,9 @@ const FROM_GETX: [bool; STATES] = [
     false, // SM_D
     false, // MI_A
     false, // II_A
+    false, // O
+    true, // OM_AD
+    false, // OI_A
 ];
 
 const FROM_PUTX: [bool; STATES] = [
@@ -243,6 +305,26 @@ const FROM_PUTX: [bool; STATES] = [
     false, // SM_D
     true, // MI_A
     true, // II_A
+    false, // O
+    false, // OM_AD
+    true, // OI_A
+];
+
+const UPGRADES: [bool; STATES] = [
+    false, // I
+    false, // S
+    false, // M
+    false, // IS_AD
+    false, // IM_AD
+    false, // SM_AD
+    false, // IS_D
+    false, // IM_D
+    false, // SM_D
+    false, // MI_A
+    false, // II_A
+    false, // O
+    true, // OM_AD
+    false, // OI_A
 ];
 
 const PUT_STANDS: [bool; STATES] = [
@@ -257,6 +339,26 @@ const PUT_STANDS: [bool; STATES] = [
     false, // SM_D
     true, // MI_A
     false, // II_A
+    false, // O
+    false, // OM_AD
+    true, // OI_A
+];
+
+const LEAVES_SHARERS: [bool; STATES] = [
+    false, // I
+    false, // S
+    false, // M
+    false, // IS_AD
+    false, // IM_AD
+    false, // SM_AD
+    false, // IS_D
+    false, // IM_D
+    false, // SM_D
+    false, // MI_A
+    false, // II_A
+    false, // O
+    false, // OM_AD
+    true, // OI_A
 ];
 
 const GRANTED_TO: [u8; STATES] = [
@@ -271,6 +373,9 @@ const GRANTED_TO: [u8; STATES] = [
     NONE, // SM_D
     NONE, // MI_A
     NONE, // II_A
+    NONE, // O
+    SM_D, // OM_AD
+    NONE, // OI_A
 ];
 
 const FILLED_TO: [u8; STATES] = [
@@ -285,6 +390,9 @@ const FILLED_TO: [u8; STATES] = [
     M, // SM_D
     NONE, // MI_A
     NONE, // II_A
+    NONE, // O
+    NONE, // OM_AD
+    NONE, // OI_A
 ];
 
 // What a column of rights says of a state.
@@ -357,12 +465,14 @@ pub fn asked(kind: u8, state: u8) -> u8
     }
 }
 
-// Where an owner goes that sees GETS.
-pub fn sees_gets(state: u8) -> u8
-    ensures { λ r. ⌜ r ≡ seesGets state ⌝ }
+// Where an owner goes that sees GETS: the only column that looks at the edition.
+pub fn sees_gets(edition: Edition, state: u8) -> u8
+    ensures { λ r. ⌜ r ≡ seesGets edition state ⌝ }
 {
-    let to = place(&SEES_GETS, state);
-    moved(state, to)
+    match edition {
+        Edition::Msi => moved(state, place(&SEES_GETS_MSI, state)),
+        Edition::Mosi => moved(state, place(&SEES_GETS_MOSI, state)),
+    }
 }
 
 // Where a card goes that sees another's GETX.
@@ -413,11 +523,25 @@ pub fn comes_from(kind: u8, state: u8) -> bool
     }
 }
 
+// A GETX from this state is an upgrade of its owner.
+pub fn upgrades(state: u8) -> bool
+    ensures { λ r. ⌜ r ≡ upgrades state ⌝ }
+{
+    right(&UPGRADES, state)
+}
+
 // A put from this state is taken; from another it has lapsed.
 pub fn put_stands(state: u8) -> bool
     ensures { λ r. ⌜ r ≡ putStands state ⌝ }
 {
     right(&PUT_STANDS, state)
+}
+
+// A put from this state leaves the sharers listed.
+pub fn leaves_sharers(state: u8) -> bool
+    ensures { λ r. ⌜ r ≡ leavesSharers state ⌝ }
+{
+    right(&LEAVES_SHARERS, state)
 }
 
 // Where an asker goes whose request is granted, or NONE.

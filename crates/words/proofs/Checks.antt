@@ -11,7 +11,7 @@ use lib.Seq.{sets, take-suc, take-all, length-take-le}
 use lib.Dec.{eqb, ltb, leb}
 use Rattle.rules.specs.Tests.{_⇒_, each, all, some}
 use Rattle.rules.specs.Masks.{every}
-use Rattle.rules.specs.Numbers.{lastRetry, gets, putx, states}
+use Rattle.rules.specs.Numbers.{lastRetry, gets, putx, statesIn}
 use Rattle.rules.specs.Table.{loads, waits}
 use Rattle.rules.specs.Formed.{homeOrCard, okCell, okRequest, okMessage}
 use Rattle.rules.proofs.Masks.{inside-every}
@@ -20,6 +20,7 @@ use Rattle.rules.specs.declared.OrderNo.{OrderNo}
 use Rattle.rules.specs.declared.Cell.{Cell}
 use Rattle.rules.specs.declared.Request.{Request}
 use Rattle.rules.specs.declared.Message.{Message}
+use Rattle.rules.specs.declared.Edition.{Edition}
 
 -- where a holds, b holds
 or-imp : (a b : Bool) → (not a || b) ≡ (a ⇒ b)
@@ -106,12 +107,12 @@ module _ (w : List ℕ) (p : ℕ) (row : List ℕ) where
   stored-all i w₁ l e = e ∙ ap (sets w p) (take-all i row l)
 
 -- the rules' tests of an item, one after the other
-pub cell-tested : (last : OrderNo) (x : Cell) (w l : Bool) → w ≡ waits (x .state) → l ≡ loads (x .state)
-    → (ltb (x .state) states && leb (x .awaits .0) (last .0) && (not w || not (eqb (x .awaits .0) 0)) && (w || eqb (x .awaits .0) 0)
-    && (l || eqb (x .value) 0)) ≡ okCell last x
+pub cell-tested : (e : Edition) (n : ℕ) (last : OrderNo) (x : Cell) (w l : Bool) → n ≡ statesIn e → w ≡ waits (x .state) → l ≡ loads (x .state)
+    → (ltb (x .state) n && leb (x .awaits .0) (last .0) && (not w || not (eqb (x .awaits .0) 0)) && (w || eqb (x .awaits .0) 0)
+    && (l || eqb (x .value) 0)) ≡ okCell e last x
 unfolding okCell each
-cell-tested last x w l hw hl =
-    rw (hw, hl, or-imp, or-imp-not (waits (x .state)), or-imp-not (loads (x .state))) (simp (and-assoc, and-true))
+cell-tested e n last x w l hn hw hl =
+    rw (hn, hw, hl, or-imp, or-imp-not (waits (x .state)), or-imp-not (loads (x .state))) (simp (and-assoc, and-true))
 
 pub request-tested : (cards blocks : ℕ) (r : Request) (n : ℕ) → n ≡ every cards
     → (ltb (r .card) cards && ltb (r .block) blocks && leb gets (r .kind) && leb (r .kind) putx && leb (r .mask) n

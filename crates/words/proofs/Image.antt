@@ -9,6 +9,7 @@ use lib.Seq.{sets}
 use Rattle.rules.specs.Lists.{replace}
 use Rattle.rules.specs.Numbers.{mostCards, mostBlocks, room}
 use Rattle.rules.specs.Chassis.{Block, Chassis, withCell, withHome, unusedRequest, unusedMessage}
+use Rattle.rules.specs.declared.Edition.{Edition}
 use Rattle.rules.specs.declared.OrderNo.{OrderNo}
 use Rattle.rules.specs.declared.Cell.{Cell}
 use Rattle.rules.specs.declared.Request.{Request}
@@ -45,6 +46,7 @@ use Rattle.words.proofs.Closing.{pulled, table-closing}
 -- A chassis by its places: the counts, and what stands in each place, used or not
 
 pub record Plain : Type 0 where
+  pub edition : Edition
   pub cards : ℕ
   pub blocks : ℕ
   pub waiting : ℕ
@@ -57,6 +59,7 @@ pub record Plain : Type 0 where
 -- with the counts, the blocks, the line and the pool anew: what leaves one with something changed goes through this
 abbrev pub alike : Plain → ℕ → ℕ → (ℕ → Block) → (ℕ → Request) → (ℕ → Message) → Plain
 alike p waiting pooled block line pool = record {
+  edition = p .edition;
   cards = p .cards;
   blocks = p .blocks;
   waiting = waiting;
@@ -69,6 +72,7 @@ alike p waiting pooled block line pool = record {
 
 abbrev pub plain : Chassis → Plain
 plain c = record {
+  edition = c .edition;
   cards = c .cards;
   blocks = c .blocks;
   waiting = length (c .line);
@@ -80,7 +84,7 @@ plain c = record {
 }
 
 abbrev header : Plain → List ℕ
-header p = headRow (p .cards) (p .blocks) (p .waiting) (p .pooled) (p .last)
+header p = headRow (p .edition) (p .cards) (p .blocks) (p .waiting) (p .pooled) (p .last)
 
 abbrev blocksRows : Plain → List ℕ
 blocksRows p = rows mostBlocks (λ b. blockRow (p .block b))

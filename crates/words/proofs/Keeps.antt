@@ -28,6 +28,7 @@ use Rattle.rules.specs.Chassis.{
   withCell,
   changed,
   poolChanged,
+  noChassis,
 }
 use Rattle.rules.specs.Answers.{Result, NoneHolds}
 use Rattle.rules.specs.Order.{
@@ -39,6 +40,7 @@ use Rattle.rules.specs.Order.{
   turn,
   orderHead,
   order,
+  giver,
 }
 use Rattle.rules.specs.Formed.{homeOrCard, unusedBlock, okRequest, okMessage, wellFormed}
 use Rattle.rules.specs.Events.{
@@ -79,9 +81,9 @@ use Rattle.rules.specs.declared.Event.the-variants.{
 use Rattle.rules.proofs.Tests.{test, cond-cases}
 use Rattle.rules.proofs.Lists.{replace-cases, All-append, All-removed, All-at}
 use Rattle.rules.proofs.Masks.{none-inside}
-use Rattle.rules.proofs.States.{Column}
+use Rattle.rules.proofs.States.{Column, in-states}
 use Rattle.rules.proofs.Refusals.{refused-cases}
-use Rattle.rules.proofs.Upshots.{by-outcome, memory-cases, cell-sees}
+use Rattle.rules.proofs.Upshots.{by-outcome, memory-cases, cell-sees, In, turn-in}
 use Rattle.rules.proofs.Formed.{
   CellWf,
   idle-wf,
@@ -100,6 +102,7 @@ use Rattle.rules.proofs.Start.{start-cases, refused≢done, fresh-formed}
 use Rattle.words.specs.Words.{words, cellAt, messageAt, pooledOf, blockOf, first, view, formed}
 use Rattle.words.specs.Claims.{BlockFits, RequestFits, MessageFits, Fits, Formed-says, Start-forms, Step-forms}
 use Rattle.words.specs.Inner.Parts.{act, Does}
+use Rattle.rules.specs.declared.Edition.{Edition}
 use Rattle.words.proofs.Does.{sizes, step-act}
 use Rattle.words.proofs.View.{cards-of, formed-chassis, formed-words, formed-of, view-words}
 
@@ -172,28 +175,28 @@ unfolding inside
 mask-fits cards mask few h = omega (arith, ltb-true mask (2 ^ cards) h, pow-mono few)
 
 -- an unused block is a well formed one
-unused-wf : (cards : ℕ) (last : OrderNo) (B : Block) → unusedBlock B ≡ true → BlockWf cards last B
+unused-wf : (e : Edition) (cards : ℕ) (last : OrderNo) (B : Block) → unusedBlock B ≡ true → BlockWf e cards last B
 unfolding homeOrCard
-unused-wf cards last B h =
+unused-wf e cards last B h =
     let u = unused→ B h in
     record {
       owner = rw (u .owner);
       sharers = rw (u .sharers) (none-inside cards);
       places = λ k l. record {
-        used = λ _. subst (CellWf last) (sym (unused-idle (B .cell k) (u .cells k l))) (idle-wf last);
+        used = λ _. subst (CellWf e last) (sym (unused-idle (B .cell k) (u .cells k l))) (idle-wf e last);
         unused = λ _. u .cells k l;
       };
     }
 
-block-fits : (cards : ℕ) (last : OrderNo) (B : Block) → cards ≤ mostCards → BlockWf cards last B → BlockWithin B → BlockFits B
-block-fits cards last B few w h = record {
+block-fits : (e : Edition) (cards : ℕ) (last : OrderNo) (B : Block) → cards ≤ mostCards → BlockWf e cards last B → BlockWithin B → BlockFits B
+block-fits e cards last B few w h = record {
   memory = h .low;
   owner = owner-fits cards (B .owner) few (w .owner);
   sharers = mask-fits cards (B .sharers) few (w .sharers);
   cells = λ k l. record {
     state = test (ltb k cards)
-        (λ e. let z = w .places k l .used (ltb-true k cards e) .code in omega arith)
-        (λ e. rw (unused-idle (B .cell k) (w .places k l .unused (ltb-false k cards e))) (omega arith));
+        (λ t. let z = in-states e (B .cell k .state) (w .places k l .used (ltb-true k cards t) .code) in omega arith)
+        (λ t. rw (unused-idle (B .cell k) (w .places k l .unused (ltb-false k cards t))) (omega arith));
     value = h .values k;
   };
   beyond = h .beyond;
@@ -228,9 +231,9 @@ chassis-fits c w h =
     record {
       line-room = w .line-room;
       pool-room = w .pool-room;
-      blocks = λ b l. block-fits (c .cards) n (c .block b) (few .few-cards) (test (ltb b (c .blocks))
+      blocks = λ b l. block-fits (c .edition) (c .cards) n (c .block b) (few .few-cards) (test (ltb b (c .blocks))
           (λ e. w .used b l (ltb-true b (c .blocks) e))
-          (λ e. unused-wf (c .cards) n (c .block b) (w .unused b l (ltb-false b (c .blocks) e)))) (h .blocks b);
+          (λ e. unused-wf (c .edition) (c .cards) n (c .block b) (w .unused b l (ltb-false b (c .blocks) e)))) (h .blocks b);
       beyond = h .beyond;
       requests = λ i l. request-fits (c .cards) (c .blocks) _ few
           (All-at (RequestOk c) (c .line) i _ l (w .requests));
@@ -255,14 +258,14 @@ goes-low : (n : OrderNo) (s : ℕ) (x : Cell) → LowCell x → LowCell (goesFor
 goes-low n s x h = cond-cases Low (loads s) (x .value) 0 (λ _. h) (λ _. omega arith)
 
 -- where no card is, a cell that sees a request stays idle
-pub idle-sees : (f : ℕ → ℕ) → Column f → (x : Cell) → x ≡ idle → goes (f (x .state)) x ≡ idle
+pub idle-sees : (e : Edition) (f : ℕ → ℕ) → Column e f → (x : Cell) → x ≡ idle → goes (f (x .state)) x ≡ idle
 unfolding loads
-idle-sees f col x e = ap (λ y. goes (f (y .state)) y) e ∙ rw (col .idle)
+idle-sees e f col x is = ap (λ y. goes (f (y .state)) y) is ∙ rw (col .idle)
 
 module _ (B : Block) (h : BlockWithin B) (r : Request) (n : OrderNo) where
-  given-low : Low (given B)
+  given-low : Low (given B (r .card))
   unfolding given
-  given-low = cond-cases Low (eqb (B .owner) home) (B .memory) _ (λ _. h .low) (λ _. h .values (B .owner))
+  given-low = cond-cases Low (eqb (giver B (r .card)) home) (B .memory) _ (λ _. h .low) (λ _. h .values (giver B (r .card)))
 
   -- memory, what is sent, and the asker
   memory-low : (t : Turn) → Low (upshotOf t .memory B (r .card))
@@ -278,14 +281,14 @@ module _ (B : Block) (h : BlockWithin B) (r : Request) (n : OrderNo) where
       (λ _. goes-low n (grantedTo (x .state)) x v)
       (λ _. cond-cases LowCell (eqb (upshotOf t .outcome) tooSmall) x idle (λ _. v) (λ _. omega arith)))
 
-  ordered-within : (t : Turn) → r .card < mostCards → BlockWithin (ordered t B r n)
+  ordered-within : (e : Edition) (t : Turn) → In e t → r .card < mostCards → BlockWithin (ordered t B r n)
   unfolding ordered
-  ordered-within t q< = record {
+  ordered-within e t i q< = record {
     low = memory-low t;
-    values = λ k. let x = B .cell k in cell-sees LowCell t B r n k
+    values = λ k. let x = B .cell k in cell-sees e LowCell t i B r n k
         (λ _. asker-low t x (h .values k)) (h .values k) (λ f _. goes-low noNumber (f (x .state)) x (h .values k));
-    beyond = λ k l. let x = B .cell k in cell-sees (λ (y : Cell). y ≡ idle) t B r n k
-        (λ e. absurd (omega arith)) (h .beyond k l) (λ f col. idle-sees f col x (h .beyond k l));
+    beyond = λ k l. let x = B .cell k in cell-sees e (λ (y : Cell). y ≡ idle) t i B r n k
+        (λ f. absurd (omega arith)) (h .beyond k l) (λ f col. idle-sees e f col x (h .beyond k l));
   }
 
 -- A block anew
@@ -361,7 +364,7 @@ module _ {c : Chassis} (w : Wf c) (h : Kept c) where
       let t = turn c r in
       let x = request→ (c .cards) (c .blocks) r (subst (All (RequestOk c)) at (w .requests) .0) in
       changed-kept (r .block) _ (rest ++ upshotOf t .again (c .cards) B r) (c .pool ++ upshotOf t .sent B r n) n (x .block)
-      (ordered-within B (h .blocks (r .block)) r n t (card-room (x .card)))
+      (ordered-within B (h .blocks (r .block)) r n (c .edition) t (turn-in c r) (card-room (x .card)))
       (All-append LowMessage (c .pool) (upshotOf t .sent B r n) (h .messages) (sent-low B (h .blocks (r .block)) r n t))
 
   -- every event
@@ -414,8 +417,8 @@ pub does-formed : (w : List ℕ) (e : Event) (r : Answer) (w′ : List ℕ) → 
 does-formed w e r w′ h f d = subst (λ (l : List ℕ). formed l ≡ true) (sym (d .after)) (act-says w e h f .0)
 
 -- the words of a chassis just started say it, whatever its size
-pub fresh-view : (cards blocks : ℕ) → view (words (fresh cards blocks)) ≡ fresh cards blocks
-fresh-view cards blocks = view-words (fresh cards blocks) (record {
+pub fresh-view : (e : Edition) (cards blocks : ℕ) → view (words (fresh e cards blocks)) ≡ fresh e cards blocks
+fresh-view e cards blocks = view-words (fresh e cards blocks) (record {
   line-room = omega arith;
   pool-room = omega arith;
   blocks = λ b l. record {
@@ -431,21 +434,21 @@ fresh-view cards blocks = view-words (fresh cards blocks) (record {
 })
 
 -- the words that an accepted Start makes
-pub start-says : (cards blocks v : ℕ) → start cards blocks .answer ≡ Done v → Sayable (start cards blocks .after)
-start-says cards blocks v = start-cases cards blocks (λ (o : Result). o .answer ≡ Done v → Sayable (o .after))
-    (λ s _. words-say (fresh cards blocks) (fresh-formed cards blocks s)
+pub start-says : (e : Edition) (cards blocks v : ℕ) → start e cards blocks .answer ≡ Done v → Sayable (start e cards blocks .after)
+start-says e cards blocks v = start-cases e cards blocks (λ (o : Result). o .answer ≡ Done v → Sayable (o .after))
+    (λ s _. words-say (fresh e cards blocks) (fresh-formed e cards blocks s)
     (record { blocks = λ _. fresh-within; beyond = λ _ _. refl; messages = tt }))
-    (λ r e. absurd (refused≢done r v e))
+    (λ r f. absurd (refused≢done r v f))
 
 -- a refused one makes none
-none-formed : formed (words (fresh 0 0)) ≡ false
-none-formed = test (formed (words (fresh 0 0)))
-    (λ e. absurd (let s = sizes (words (fresh 0 0)) e .a-card in let n = cards-of (fresh 0 0) (words (fresh 0 0)) refl in omega arith))
+none-formed : formed (words noChassis) ≡ false
+none-formed = test (formed (words noChassis))
+    (λ e. absurd (let s = sizes (words noChassis) e .a-card in let n = cards-of noChassis (words noChassis) refl in omega arith))
     (λ e. e)
 
-pub start-refused-words : (cards blocks : ℕ) (r : Refusal) → start cards blocks .answer ≡ Refused r
-    → formed (words (start cards blocks .after)) ≡ false
-start-refused-words cards blocks r = start-cases cards blocks (λ (o : Result). o .answer ≡ Refused r → formed (words (o .after)) ≡ false)
+pub start-refused-words : (e : Edition) (cards blocks : ℕ) (r : Refusal) → start e cards blocks .answer ≡ Refused r
+    → formed (words (start e cards blocks .after)) ≡ false
+start-refused-words e cards blocks r = start-cases e cards blocks (λ (o : Result). o .answer ≡ Refused r → formed (words (o .after)) ≡ false)
     (λ _ e. absurd (refused≢done r 0 (sym e)))
     (λ _ _. none-formed)
 
@@ -458,7 +461,7 @@ formed-says = record {
 }
 
 pub start-forms : Start-forms
-start-forms cards blocks v h = start-says cards blocks v h .0
+start-forms e cards blocks v h = start-says e cards blocks v h .0
 
 pub step-forms : Step-forms
 step-forms w e f h =

@@ -24,9 +24,9 @@ owner-card owner n h = ltb-true owner mostCards (rw (ne-eqb owner home n) at h)
 -- The mask test
 
 module _ (cards : ℕ) (h : Home) (r : Request) (B : Block) (is : HomeIs B h) (named : Bool)
-    (e : named ≡ (eqb (h .owner) home || has (r .mask) (h .owner))) where
-  owner-named : (eqb (B .owner) home || has (r .mask) (B .owner)) ≡ named
-  owner-named = ap (λ o. eqb o home || has (r .mask) o) (is .owner) ∙ sym e
+    (e : named ≡ (eqb (h .owner) home || eqb (h .owner) (r .card) || has (r .mask) (h .owner))) where
+  owner-named : (eqb (B .owner) home || eqb (B .owner) (r .card) || has (r .mask) (B .owner)) ≡ named
+  owner-named = ap (λ o. eqb o home || eqb o (r .card) || has (r .mask) o) (is .owner) ∙ sym e
 
   pub owner-missed : named ≡ false → false ≡ suffices cards B r
   unfolding suffices

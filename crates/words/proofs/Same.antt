@@ -9,7 +9,7 @@ use lib.ListN.{length, getD, take, drop, take-append-drop, length-drop}
 use lib.Seq.{take-add, drop-drop, drop-cons, take-all}
 use lib.Dec.{eqb}
 use borrow.Author.Tests.{eqb-true, eq-eqb}
-use Rattle.rules.specs.Numbers.{mostCards, mostBlocks, room}
+use Rattle.rules.specs.Numbers.{mostCards, mostBlocks, room, editionNo}
 use Rattle.rules.specs.Chassis.{Block, unusedRequest, unusedMessage}
 use Rattle.rules.proofs.Tests.{and-l, and-r, and-i}
 use Rattle.words.specs.Layout.{
@@ -26,6 +26,7 @@ use Rattle.words.specs.Layout.{
   requestPlace,
   messagePlace,
   allWords,
+  editionAt,
 }
 use Rattle.words.specs.Words.{
   rows,
@@ -46,6 +47,7 @@ use Rattle.words.specs.Words.{
   messageAt,
   blockOf,
   view,
+  editionOf,
 }
 use Rattle.words.specs.Inner.Tested.{rowIs, homeIs, cellIs, requestIs, messageIs}
 use Rattle.words.proofs.Rows.{rows-ext}
@@ -108,6 +110,7 @@ rows-of m (suc n) base w =
 -- Words that are those of the items
 
 pub record Same (w : List ℕ) : Type 0 where
+  pub edition : getD w editionAt 0 ≡ editionNo (editionOf w)
   pub home : (b : ℕ) → b < mostBlocks → homeIs w b (blockOf w b) ≡ true
   pub cell : (k b : ℕ) → k < mostCards → b < mostBlocks → cellIs w k b (cellAt w k b) ≡ true
   pub request : (i : ℕ) → i < room → requestIs w i (getD (view w .line) i unusedRequest) ≡ true
@@ -117,8 +120,13 @@ module _ (w : List ℕ) (e : w ≡ words (view w)) where
   at-image : (p x : ℕ) → getD (image (plain (view w))) p 0 ≡ x → getD w p 0 ≡ x
   at-image p x h = ap (λ l. getD l p 0) (e ∙ words-image (view w)) ∙ h
 
+  head-word : getD w editionAt 0 ≡ editionNo (editionOf w)
+  unfolding words view
+  head-word = ap (λ l. getD l editionAt 0) e
+
   pub words-same : Same w
   words-same = record {
+    edition = head-word;
     home = λ b hb. row-test w (homePlace b) _ (λ r l. at-image (homePlace b + r) _ (get-home (plain (view w)) b r hb l
         ∙ ap (λ (B : Block). getD (homeRow (B .memory) (B .owner) (B .sharers)) r 0) (view-block w b hb)));
     cell = λ k b hk hb. row-test w (cellPlace k b) _ (λ r l. at-image (cellPlace k b + r) _
@@ -152,19 +160,20 @@ module _ (w : List ℕ) (len : length w ≡ allWords) (s : Same w) where
   message-is i h = row-is (messagePlace i) (messageRow (getD (view w .pool) i unusedMessage)) (omega arith) (s .message i h)
 
   -- the header says what is read off it
-  head-is : take headWords w ≡ headRow (view w .cards) (view w .blocks) (length (view w .line)) (length (view w .pool)) (view w .last)
+  head-is : take headWords w ≡ headRow (view w .edition) (view w .cards) (view w .blocks) (length (view w .line)) (length (view w .pool)) (view w .last)
   unfolding view
   head-is =
       rw (length-first (waitingOf w) (requestAt w), length-first (pooledOf w) (messageAt w))
-      (row-is 0 (headRow (cardsOf w) (blocksOf w) (waitingOf w) (pooledOf w) (lastOf w)) (omega arith) (row-test w 0 _ at-head))
+      (row-is 0 (headRow (editionOf w) (cardsOf w) (blocksOf w) (waitingOf w) (pooledOf w) (lastOf w)) (omega arith) (row-test w 0 _ at-head))
     where
-      at-head : (r : ℕ) → r < headWords → getD w (0 + r) 0 ≡ getD (headRow (cardsOf w) (blocksOf w) (waitingOf w) (pooledOf w) (lastOf w)) r 0
-      at-head zero l = refl
+      at-head : (r : ℕ) → r < headWords → getD w (0 + r) 0 ≡ getD (headRow (editionOf w) (cardsOf w) (blocksOf w) (waitingOf w) (pooledOf w) (lastOf w)) r 0
+      at-head zero l = s .edition
       at-head (suc zero) l = refl
       at-head (suc (suc zero)) l = refl
       at-head (suc (suc (suc zero))) l = refl
       at-head (suc (suc (suc (suc zero)))) l = refl
-      at-head (suc (suc (suc (suc (suc r))))) l = absurd (omega arith)
+      at-head (suc (suc (suc (suc (suc zero))))) l = refl
+      at-head (suc (suc (suc (suc (suc (suc r)))))) l = absurd (omega arith)
 
   pub same-words : w ≡ words (view w)
   unfolding words

@@ -8,13 +8,14 @@ use mathlib.Core.Path.{_≡_, refl, sym, ap, ap₂, _∙_, fun-ext}
 use lib.ListN.{set, replicate}
 use lib.Dec.{ltb}
 use borrow.Author.Tests.{lt-ltb, le-ltb, ltb-true, ltb-false}
-use Rattle.rules.specs.Numbers.{home, mostCards, mostBlocks, room}
+use Rattle.rules.specs.Numbers.{home, mostCards, mostBlocks, room, noNumber, editionNo}
 use Rattle.rules.specs.Chassis.{
   Block,
   Chassis,
   aBlock,
   idle,
   fresh,
+  noChassis,
   freshBlock,
   unusedRequest,
   unusedMessage,
@@ -22,9 +23,11 @@ use Rattle.rules.specs.Chassis.{
   blocksChanged,
   blockChanged,
 }
+use Rattle.rules.specs.declared.Edition.{Edition}
+use Rattle.rules.specs.declared.Edition.the-variants.{Msi}
 use Rattle.rules.proofs.Tests.{test}
 use Rattle.rules.proofs.Lists.{replace-cases}
-use Rattle.words.specs.Layout.{cardsAt, blocksAt, headWords, homeWords, cellWords, blockWords, placeWords, allWords}
+use Rattle.words.specs.Layout.{editionAt, cardsAt, blocksAt, headWords, homeWords, cellWords, blockWords, placeWords, allWords}
 use Rattle.words.specs.Words.{rows, headRow, homeRow, cellRow, blockRow, requestRow, messageRow, words}
 use Rattle.words.specs.Inner.Parts.{putHome}
 use Rattle.words.proofs.Rows.{rows-ext}
@@ -60,7 +63,7 @@ zero-block = ap (λ (l : List ℕ). homeRow 0 0 0 ++ l) (zeros-rows cellWords mo
 
 -- an empty chassis whose blocks below n are as Start makes them, and the others zeros
 unfoldable pub begun : ℕ → Chassis
-begun n = blocksChanged (fresh 0 0) (λ b. cond (ltb b n) freshBlock zeroBlock)
+begun n = blocksChanged noChassis (λ b. cond (ltb b n) freshBlock zeroBlock)
 
 -- at first no block is
 pub none-begun : zeros allWords ≡ words (begun 0)
@@ -86,20 +89,21 @@ next-begun n =
     (λ ne. test (ltb b n)
     (λ p. let h = ltb-true b n p in rw (p, lt-ltb b (n + 1) (omega arith)))
     (λ p. let h = ltb-false b n p in rw (p, le-ltb b (n + 1) (omega arith))))) in
-    ap (blocksChanged (fresh 0 0)) B
+    ap (blocksChanged noChassis) B
 
 pub begin-next : (w w′ : List ℕ) (n : ℕ) → n < mostBlocks → w ≡ words (begun n) → w′ ≡ putHome w n 0 home 0 → w′ ≡ words (begun (n + 1))
 begin-next w w′ n h e e′ = e′ ∙ home-words (begun n) w e n 0 home 0 h ∙ ap words (next-begun n)
 
 -- in the end all are
-pub all-begun : (w : List ℕ) (n : ℕ) → n ≡ mostBlocks → w ≡ words (begun n) → w ≡ words (fresh 0 0)
+pub all-begun : (w : List ℕ) (n : ℕ) → n ≡ mostBlocks → w ≡ words (begun n) → w ≡ words noChassis
 unfolding words begun
 all-begun w n h e = e ∙ ap (λ k. words (begun k)) h
-    ∙ ap (λ (l : List ℕ). headRow 0 0 0 0 (fresh 0 0 .last) ++ (l ++ (rows room (λ i. requestRow unusedRequest) ++ rows room (λ i. messageRow unusedMessage))))
+    ∙ ap (λ (l : List ℕ). headRow Msi 0 0 0 0 noNumber ++ (l ++ (rows room (λ i. requestRow unusedRequest) ++ rows room (λ i. messageRow unusedMessage))))
     (rows-ext mostBlocks (λ b. blockRow (begun mostBlocks .block b)) (λ b. blockRow freshBlock) (λ b l. rw (lt-ltb b mostBlocks l)))
 
--- the counts
-pub counted : (cards blocks : ℕ) (w w₁ w₂ : List ℕ) → w ≡ words (fresh 0 0) → w₁ ≡ set w cardsAt cards → w₂ ≡ set w₁ blocksAt blocks
-    → w₂ ≡ words (fresh cards blocks)
+-- the edition and the counts
+pub counted : (e : Edition) (cards blocks : ℕ) (w w₁ w₂ w₃ : List ℕ) → w ≡ words noChassis → w₁ ≡ set w editionAt (editionNo e)
+    → w₂ ≡ set w₁ cardsAt cards → w₃ ≡ set w₂ blocksAt blocks → w₃ ≡ words (fresh e cards blocks)
 unfolding words
-counted cards blocks w w₁ w₂ e e₁ e₂ = e₂ ∙ ap (λ (l : List ℕ). set l blocksAt blocks) (e₁ ∙ ap (λ (l : List ℕ). set l cardsAt cards) e)
+counted e cards blocks w w₁ w₂ w₃ is e₁ e₂ e₃ = e₃ ∙ ap (λ (l : List ℕ). set l blocksAt blocks) (e₂
+    ∙ ap (λ (l : List ℕ). set l cardsAt cards) (e₁ ∙ ap (λ (l : List ℕ). set l editionAt (editionNo e)) is))

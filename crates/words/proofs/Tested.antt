@@ -6,12 +6,12 @@ use mathlib.Core.Bool.{Bool, true, false, cond, _&&_, and-true, and-assoc}
 use mathlib.Core.List.{List, [], _∷_}
 use mathlib.Core.Path.{_≡_, refl, sym, ap, _∙_, subst}
 use lib.ListN.{length, getD, List·getD-eq-default}
-use lib.Dec.{ltb, leb}
-use borrow.Author.Tests.{ltb-true, ltb-false, lt-ltb, le-ltb, leb-true, le-leb}
+use lib.Dec.{ltb, leb, eqb}
+use borrow.Author.Tests.{ltb-true, ltb-false, lt-ltb, le-ltb, leb-true, le-leb, eqb-true, eqb-false}
 use Rattle.rules.specs.Tests.{each, all}
 use Rattle.rules.specs.Lists.{All}
 use Rattle.rules.specs.Masks.{inside}
-use Rattle.rules.specs.Numbers.{mostCards, mostBlocks, home, room}
+use Rattle.rules.specs.Numbers.{mostCards, mostBlocks, home, room, editionNo}
 use Rattle.rules.specs.Chassis.{idle, freshBlock, unusedRequest, unusedMessage}
 use Rattle.rules.specs.Formed.{sizes, homeOrCard, okCell, unusedCell, unusedBlock, okRequest, okMessage}
 use Rattle.rules.proofs.Tests.{test, and-l, and-r, and-i, each→, →each, all-elim, all-intro}
@@ -30,7 +30,7 @@ use Rattle.rules.proofs.Formed.{
   wf→,
   →wf,
 }
-use Rattle.words.specs.Layout.{homePlace, cellPlace, allWords}
+use Rattle.words.specs.Layout.{homePlace, cellPlace, allWords, editionAt}
 use Rattle.words.specs.Words.{
   cardsOf,
   blocksOf,
@@ -46,6 +46,8 @@ use Rattle.words.specs.Words.{
   first,
   view,
   formed,
+  asEdition,
+  editionOf,
 }
 use Rattle.words.specs.Inner.Tested.{
   rowIs,
@@ -62,6 +64,8 @@ use Rattle.words.specs.Inner.Tested.{
   tests,
   tested,
 }
+use Rattle.rules.specs.declared.Edition.{Edition}
+use Rattle.rules.specs.declared.Edition.the-variants.{Msi, Mosi}
 use Rattle.words.proofs.View.{formed-words, formed-chassis, formed-of, length-first, first-at}
 use Rattle.words.proofs.Same.{Same, row-at, same-words, words-same}
 
@@ -99,7 +103,18 @@ first-all P (suc n) f h = (h zero (omega arith), first-all P n (λ j. f (suc j))
 
 -- The header
 
+-- what is no greater than the last edition's number is the number of what it says
+edition-word : (n : ℕ) → n ≤ editionNo Mosi → n ≡ editionNo (asEdition n)
+edition-word n l = test (eqb n (editionNo Msi))
+    (λ e. rw e (eqb-true n (editionNo Msi) e))
+    (λ e. rw e (let ne = eqb-false n (editionNo Msi) e in omega arith))
+
+edition-low : (e : Edition) → editionNo e ≤ editionNo Mosi
+edition-low Msi = omega arith
+edition-low Mosi = omega arith
+
 record HeadWf (w : List ℕ) : Type 0 where
+  pub edition : getD w editionAt 0 ≤ editionNo Mosi
   pub size : sizes (cardsOf w) (blocksOf w) ≡ true
   pub waiting : waitingOf w ≤ room
   pub pooled : pooledOf w ≤ room
@@ -107,22 +122,27 @@ record HeadWf (w : List ℕ) : Type 0 where
 head→ : (w : List ℕ) → headTest w ≡ true → HeadWf w
 unfolding headTest
 head→ w h =
+    let e = leb (getD w editionAt 0) (editionNo Mosi) in
     let s = sizes (cardsOf w) (blocksOf w) in
     let l = leb (waitingOf w) room in
     let p = leb (pooledOf w) room in
-    let sl = and-l (s && l) p h in
+    let esl = and-l (e && s && l) p h in
+    let es = and-l (e && s) l esl in
     record {
-      size = and-l s l sl;
-      waiting = leb-true (waitingOf w) room (and-r s l sl);
-      pooled = leb-true (pooledOf w) room (and-r (s && l) p h);
+      edition = leb-true (getD w editionAt 0) (editionNo Mosi) (and-l e s es);
+      size = and-r e s es;
+      waiting = leb-true (waitingOf w) room (and-r (e && s) l esl);
+      pooled = leb-true (pooledOf w) room (and-r (e && s && l) p h);
     }
 
 →head : (w : List ℕ) → HeadWf w → headTest w ≡ true
 unfolding headTest
 →head w h =
+    let e = leb (getD w editionAt 0) (editionNo Mosi) in
     let s = sizes (cardsOf w) (blocksOf w) in
     let l = leb (waitingOf w) room in
-    and-i {a = s && l} (and-i {a = s} (h .size) (le-leb (waitingOf w) room (h .waiting))) (le-leb (pooledOf w) room (h .pooled))
+    and-i {a = e && s && l} (and-i {a = e && s} (and-i {a = e} (le-leb (getD w editionAt 0) (editionNo Mosi) (h .edition)) (h .size))
+    (le-leb (waitingOf w) room (h .waiting))) (le-leb (pooledOf w) room (h .pooled))
 
 -- Blocks
 
@@ -145,21 +165,21 @@ module _ (w : List ℕ) where
   cell-is : (cards k b : ℕ) → cellTest w cards b k ≡ true → cellIs w k b (cellAt w k b) ≡ true
   unfolding cellTest
   cell-is cards k b h = test (ltb k cards)
-      (λ e. and-l (cellIs w k b (cellAt w k b)) (okCell (lastOf w) (cellAt w k b)) (rw e at h))
+      (λ e. and-l (cellIs w k b (cellAt w k b)) (okCell (editionOf w) (lastOf w) (cellAt w k b)) (rw e at h))
       (λ e. let h′ = rw e at h in subst (λ x. cellIs w k b x ≡ true) (sym (blank-cell k b h′)) h′)
 
-  cell-wf : (cards k b : ℕ) → cellTest w cards b k ≡ true → Place cards (lastOf w) k (cellAt w k b)
+  cell-wf : (cards k b : ℕ) → cellTest w cards b k ≡ true → Place (editionOf w) cards (lastOf w) k (cellAt w k b)
   unfolding cellTest
   cell-wf cards k b h = record {
-    used = λ l. cell→ (lastOf w) (cellAt w k b)
-        (and-r (cellIs w k b (cellAt w k b)) (okCell (lastOf w) (cellAt w k b)) (rw (lt-ltb k cards l) at h));
+    used = λ l. cell→ (editionOf w) (lastOf w) (cellAt w k b)
+        (and-r (cellIs w k b (cellAt w k b)) (okCell (editionOf w) (lastOf w) (cellAt w k b)) (rw (lt-ltb k cards l) at h));
     unused = λ l. subst (λ x. unusedCell x ≡ true) (sym (blank-cell k b (rw (le-ltb k cards l) at h))) idle-unused;
   }
 
-  cell-test : (cards k b : ℕ) → cellIs w k b (cellAt w k b) ≡ true → Place cards (lastOf w) k (cellAt w k b) → cellTest w cards b k ≡ true
+  cell-test : (cards k b : ℕ) → cellIs w k b (cellAt w k b) ≡ true → Place (editionOf w) cards (lastOf w) k (cellAt w k b) → cellTest w cards b k ≡ true
   unfolding cellTest
   cell-test cards k b h p = test (ltb k cards)
-      (λ e. rw e (and-i {a = cellIs w k b (cellAt w k b)} h (→cell (lastOf w) (cellAt w k b) (p .used (ltb-true k cards e)))))
+      (λ e. rw e (and-i {a = cellIs w k b (cellAt w k b)} h (→cell (editionOf w) (lastOf w) (cellAt w k b) (p .used (ltb-true k cards e)))))
       (λ e. rw e (subst (λ x. cellIs w k b x ≡ true) (unused-idle (cellAt w k b) (p .unused (ltb-false k cards e))) h))
 
   cell-of : (k b : ℕ) → k < mostCards → blockOf w b .cell k ≡ cellAt w k b
@@ -189,7 +209,7 @@ module _ (w : List ℕ) where
         (λ e. cell-is (cardsOf w) k b (used-parts (ltb-true b (blocksOf w) e) .1 k hk))
         (λ e. cell-is 0 k b (unused-parts (ltb-false b (blocksOf w) e) .1 k hk))
 
-    block-wf : b < blocksOf w → BlockWf (cardsOf w) (lastOf w) (blockOf w b)
+    block-wf : b < blocksOf w → BlockWf (editionOf w) (cardsOf w) (lastOf w) (blockOf w b)
     unfolding homeTest
     block-wf l =
         let o = homeOrCard (cardsOf w) (ownerAt w b) in
@@ -198,7 +218,7 @@ module _ (w : List ℕ) where
         record {
           owner = and-l o i t;
           sharers = and-r o i t;
-          places = λ k hk. subst (Place (cardsOf w) (lastOf w) k) (sym (cell-of k b hk)) (cell-wf (cardsOf w) k b (used-parts l .1 k hk));
+          places = λ k hk. subst (Place (editionOf w) (cardsOf w) (lastOf w) k) (sym (cell-of k b hk)) (cell-wf (cardsOf w) k b (used-parts l .1 k hk));
         }
 
     block-unused : blocksOf w ≤ b → unusedBlock (blockOf w b) ≡ true
@@ -212,7 +232,7 @@ module _ (w : List ℕ) where
         })
 
   -- and that it passes
-  block-test : Same w → (b : ℕ) → b < mostBlocks → (b < blocksOf w → BlockWf (cardsOf w) (lastOf w) (blockOf w b))
+  block-test : Same w → (b : ℕ) → b < mostBlocks → (b < blocksOf w → BlockWf (editionOf w) (cardsOf w) (lastOf w) (blockOf w b))
       → (blocksOf w ≤ b → unusedBlock (blockOf w b) ≡ true) → blockTest w b ≡ true
   unfolding blockTest homeTest
   block-test s b hb f g = test (ltb b (blocksOf w))
@@ -220,7 +240,7 @@ module _ (w : List ℕ) where
       rw e (and-i {a = homeTest w b}
       (and-i {a = homeIs w b (blockOf w b)} (s .home b hb) (and-i {a = homeOrCard (cardsOf w) (ownerAt w b)} (t .owner) (t .sharers)))
       (all-intro mostCards (cellTest w (cardsOf w) b) (λ k hk.
-      cell-test (cardsOf w) k b (s .cell k b hk hb) (subst (Place (cardsOf w) (lastOf w) k) (cell-of k b hk) (t .places k hk))))))
+      cell-test (cardsOf w) k b (s .cell k b hk hb) (subst (Place (editionOf w) (cardsOf w) (lastOf w) k) (cell-of k b hk) (t .places k hk))))))
       (λ e. let t = unused→ (blockOf w b) (g (ltb-false b (blocksOf w) e)) in
       rw e (and-i {a = homeIs w b freshBlock}
       (rw (t .memory, t .owner, t .sharers) at (s .home b hb))
@@ -254,18 +274,19 @@ module _ (w : List ℕ) where
     unfolding messageTest
     message-passes = all-elim room (messageTest w) (passes .1 .1 .1 .0)
 
+    head-wf : HeadWf w
+    head-wf = head→ w (passes .0)
+
     tested-same : Same w
     unfolding view
     tested-same = record {
+      edition = edition-word (getD w editionAt 0) (head-wf .edition);
       home = λ b hb. block-home b (block-passes b hb);
       cell = λ k b hk hb. block-cell b (block-passes b hb) k hk;
       request = λ i l. slot-is unusedRequest (waitingOf w) (requestAt w) (requestIs w) (okRequest (cardsOf w) (blocksOf w)) i (request-passes i l);
       message = λ i l.
           slot-is unusedMessage (pooledOf w) (messageAt w) (messageIs w) (okMessage (cardsOf w) (blocksOf w) (lastOf w)) i (message-passes i l);
     }
-
-    head-wf : HeadWf w
-    head-wf = head→ w (passes .0)
 
     tested-wf : Wf (view w)
     unfolding view
@@ -288,6 +309,7 @@ module _ (w : List ℕ) where
   unfolding tested requestTest messageTest view
   wf-tested s t = →each (tests w) (
     →head w (record {
+      edition = subst (λ n. n ≤ editionNo Mosi) (sym (s .edition)) (edition-low (editionOf w));
       size = t .size;
       waiting = omega (arith, t .line-room, length-first (waitingOf w) (requestAt w));
       pooled = omega (arith, t .pool-room, length-first (pooledOf w) (messageAt w));

@@ -2,7 +2,7 @@
 use Prim.Native.Nat.{ℕ, suc, _+_, _≤_, _<_}
 use native.Mathlib.Numerals.{add-one}
 use native.Mathlib.Omega.{arith}
-use mathlib.Core.Bool.{true, false}
+use mathlib.Core.Bool.{Bool, true, false, _||_}
 use mathlib.Core.List.{List, [], _∷_, _++_, append-nil}
 use mathlib.Core.Logic.{_≢_}
 use mathlib.Core.Path.{_≡_, refl, sym, ap, ap₂, _∙_}
@@ -13,7 +13,9 @@ use Rattle.rules.specs.Lists.{removed}
 use Rattle.rules.specs.Masks.{only, every, union}
 use Rattle.rules.specs.Numbers.{home, room, retryNo, lastRetry, granted, tooSmall}
 use Rattle.rules.specs.Chassis.{Block, Chassis, aRequest, lineChanged, poolChanged}
-use Rattle.rules.specs.Order.{given, sharersWith, upshotOf, dataFor, retryMask, retried}
+use Rattle.rules.specs.Table.{leavesSharers}
+use Rattle.rules.specs.Order.{giver, given, keeps, sharersWith, upshotOf, dataFor, retryMask, retried}
+use Rattle.rules.specs.declared.Edition.{Edition}
 use Rattle.rules.specs.declared.OrderNo.{OrderNo}
 use Rattle.rules.specs.declared.RetryNo.{RetryNo}
 use Rattle.rules.specs.declared.Home.{Home}
@@ -21,6 +23,8 @@ use Rattle.rules.specs.declared.Cell.{Cell}
 use Rattle.rules.specs.declared.Request.{Request}
 use Rattle.rules.specs.declared.Message.{Message}
 use Rattle.rules.specs.declared.Turn.{Turn}
+use Rattle.rules.specs.declared.Turn.the-variants.{GetsGranted, PutTaken}
+use Rattle.rules.proofs.Tests.{test}
 use Rattle.rules.proofs.Upshots.{by-outcome}
 use Rattle.words.specs.Words.{words, cardsOf, waitingOf}
 use Rattle.words.specs.Inner.Parts.{Becomes, HomeIs, HomeAfter}
@@ -35,21 +39,58 @@ module _ (B : Block) (h : Home) (is : HomeIs B h) where
   at-card : h .owner ≢ home → eqb (B .owner) home ≡ false
   at-card n = ne-eqb (B .owner) home (λ e. n (sym (is .owner) ∙ e))
 
-  -- what is given away
-  pub home-gives : h .owner ≡ home → h .memory ≡ given B
+  -- who gives, and what
+  pub gives-home : (q : ℕ) → h .owner ≡ q → home ≡ giver B q
+  unfolding giver
+  gives-home q e = rw (eq-eqb (B .owner) q (is .owner ∙ e))
+
+  pub gives-owner : (q : ℕ) → h .owner ≢ q → h .owner ≡ giver B q
+  unfolding giver
+  gives-owner q n = rw (ne-eqb (B .owner) q (λ e. n (sym (is .owner) ∙ e))) (sym (is .owner))
+
+  pub memory-given : (q g : ℕ) → g ≡ giver B q → g ≡ home → h .memory ≡ given B q
   unfolding given
-  home-gives e = rw (at-home e) (sym (is .memory))
+  memory-given q g eg e = rw (eq-eqb (giver B q) home (sym eg ∙ e)) (sym (is .memory))
 
-  pub card-gives : (x : Cell) → B .cell (B .owner) ≡ x → h .owner ≢ home → x .value ≡ given B
-  unfolding given
-  card-gives x e n = rw (at-card n) (ap (λ (y : Cell). y .value) (sym e))
+  pub value-given : (q g : ℕ) (x : Cell) → B .cell (B .owner) ≡ x → g ≡ giver B q → g ≢ home → x .value ≡ given B q
+  unfolding given giver
+  value-given q g x ex eg n = test (eqb (B .owner) q)
+      (λ e. absurd (n (eg ∙ rw e)))
+      (λ e. rw (e, at-card (λ f. n (eg ∙ rw e (is .owner ∙ f)))) (ap (λ (y : Cell). y .value) (sym ex)))
 
-  -- the sharers after a granted GETS
-  pub join-home : (q a m : ℕ) → h .owner ≡ home → a ≡ only q → m ≡ union (h .sharers) a → m ≡ sharersWith B q
-  join-home q a m e ea em = em ∙ rw (at-home e) (ap₂ union (sym (is .sharers)) ea)
+  -- the sharers after a granted GETS, where the owner keeps the block or not
+  module _ (e : Edition) (stays : Bool) (es : stays ≡ keeps e B) where
+    kept-as : (eqb (B .owner) home || keeps e B) ≡ (eqb (h .owner) home || stays)
+    kept-as = ap₂ (λ o t. eqb o home || t) (is .owner) (sym es)
 
-  pub join-card : (q a o m : ℕ) → h .owner ≢ home → o ≡ only (h .owner) → a ≡ only q → m ≡ union o a → m ≡ sharersWith B q
-  join-card q a o m n eo ea em = em ∙ rw (at-card n) (ap₂ union (eo ∙ ap only (sym (is .owner))) ea)
+    pub join-kept : (q a m : ℕ) → (eqb (h .owner) home || stays) ≡ true → a ≡ only q → m ≡ union (h .sharers) a → m ≡ sharersWith e B q
+    join-kept q a m t ea em = em ∙ rw (kept-as ∙ t) (ap₂ union (sym (is .sharers)) ea)
+
+    pub join-left : (q a o m : ℕ) → (eqb (h .owner) home || stays) ≡ false → o ≡ only (h .owner) → a ≡ only q → m ≡ union o a
+        → m ≡ sharersWith e B q
+    join-left q a o m t eo ea em = em ∙ rw (kept-as ∙ t) (ap₂ union (eo ∙ ap only (sym (is .owner))) ea)
+
+    -- home's part after it
+    pub gets-kept : (q v m : ℕ) → stays ≡ true → given B q ≡ v → m ≡ sharersWith e B q
+        → HomeAfter (GetsGranted e) B q (record { memory = v; owner = h .owner; sharers = m })
+    unfolding upshotOf
+    gets-kept q v m t ev em = record { memory = sym ev; owner = rw (sym es ∙ t) (sym (is .owner)); sharers = em }
+
+    pub gets-left : (q v m : ℕ) → stays ≡ false → given B q ≡ v → m ≡ sharersWith e B q
+        → HomeAfter (GetsGranted e) B q (record { memory = v; owner = home; sharers = m })
+    unfolding upshotOf
+    gets-left q v m t ev em = record { memory = sym ev; owner = rw (sym es ∙ t); sharers = em }
+
+  -- home's part after a put that is taken
+  pub put-leaves : (q : ℕ) (x : Cell) → B .cell q ≡ x → leavesSharers (x .state) ≡ true
+      → HomeAfter PutTaken B q (record { memory = x .value; owner = home; sharers = h .sharers })
+  unfolding upshotOf
+  put-leaves q x e t = record { memory = ap (λ (y : Cell). y .value) (sym e); owner = refl; sharers = rw (e, t) (sym (is .sharers)) }
+
+  pub put-empties : (q : ℕ) (x : Cell) → B .cell q ≡ x → leavesSharers (x .state) ≡ false
+      → HomeAfter PutTaken B q (record { memory = x .value; owner = home; sharers = 0 })
+  unfolding upshotOf
+  put-empties q x e t = record { memory = ap (λ (y : Cell). y .value) (sym e); owner = refl; sharers = rw (e, t) }
 
   -- a turn that leaves home's part as it was
   pub home-kept : (t : Turn) (q : ℕ) → (upshotOf t .memory B q ≡ B .memory) × (upshotOf t .owner B q ≡ B .owner) × (upshotOf t .sharers B q ≡ B .sharers)

@@ -9,9 +9,11 @@ use lib.ListN.{length, getD}
 use lib.Dec.{ltb}
 use borrow.Author.Tests.{lt-ltb, ltb-true, ltb-false}
 use Rattle.rules.specs.Lists.{same}
-use Rattle.rules.specs.Numbers.{mostCards, mostBlocks, room}
-use Rattle.rules.specs.Chassis.{Block, Chassis, aBlock, cellOf, idle, freshBlock, unusedRequest, unusedMessage, like}
+use Rattle.rules.specs.Numbers.{mostCards, mostBlocks, room, editionNo}
+use Rattle.rules.specs.Chassis.{Block, Chassis, aBlock, aChassis, cellOf, idle, freshBlock, unusedRequest, unusedMessage}
 use Rattle.rules.specs.Formed.{wellFormed}
+use Rattle.rules.specs.declared.Edition.{Edition}
+use Rattle.rules.specs.declared.Edition.the-variants.{Msi, Mosi}
 use Rattle.rules.specs.declared.Cell.{Cell}
 use Rattle.rules.proofs.Lists.{same-eq, same-self}
 use Rattle.rules.proofs.Tests.{test, and-i, and-l, and-r}
@@ -27,6 +29,8 @@ use Rattle.words.specs.Words.{
   waitingOf,
   pooledOf,
   lastOf,
+  asEdition,
+  editionOf,
   asByte,
   asMask,
   asValue,
@@ -94,7 +98,15 @@ unfolding view
 view-message w i h = first-at unusedMessage (pooledOf w) (messageAt w) i h
 
 -- the header of a chassis's words
+edition-again : (e : Edition) → asEdition (editionNo e) ≡ e
+edition-again Msi = refl
+edition-again Mosi = refl
+
 module _ (c : Chassis) (w : List ℕ) (e : w ≡ words c) where
+  pub edition-of : editionOf w ≡ c .edition
+  unfolding words
+  edition-of = ap editionOf e ∙ edition-again (c .edition)
+
   pub cards-of : cardsOf w ≡ c .cards
   unfolding words
   cards-of = ap cardsOf e
@@ -198,4 +210,4 @@ view-words c f =
     (λ e. rw e (sym (f .beyond b (ltb-false b mostBlocks e))))) in
     let l = first-list unusedRequest (c .line) (requestAt w) (λ i h. request-again c i (let r = f .line-room in omega arith) (f .requests i h)) in
     let p = first-list unusedMessage (c .pool) (messageAt w) (λ i h. message-again c i (let r = f .pool-room in omega arith) (f .messages i h)) in
-    λ i. like c (B i) (l i) (p i) (c .last)
+    λ i. aChassis (edition-again (c .edition) i) (c .cards) (c .blocks) (B i) (l i) (p i) (c .last)

@@ -9,6 +9,7 @@ use Rattle.rules.specs.Chassis.{Block, Chassis, idle, freshBlock, unusedRequest
 use Rattle.rules.specs.Answers.{valueOf}
 use Rattle.rules.specs.Formed.{wellFormed}
 use Rattle.rules.specs.Events.{EventFits, step, start}
+use Rattle.rules.specs.declared.Edition.{Edition}
 use Rattle.rules.specs.declared.Cell.{Cell}
 use Rattle.rules.specs.declared.Request.{Request}
 use Rattle.rules.specs.declared.Message.{Message}
@@ -68,7 +69,7 @@ pub record Formed-says : Type 0 where
 
 -- an accepted Start makes formed words; an event leaves them formed
 abbrev pub Start-forms : Type 0
-Start-forms = (cards blocks v : ℕ) → start cards blocks .answer ≡ Done v → formed (words (start cards blocks .after)) ≡ true
+Start-forms = (e : Edition) (cards blocks v : ℕ) → start e cards blocks .answer ≡ Done v → formed (words (start e cards blocks .after)) ≡ true
 
 abbrev pub Step-forms : Type 0
 Step-forms = (w : List ℕ) (e : Event) → EventFits e → formed w ≡ true → formed (words (step (view w) e .after)) ≡ true

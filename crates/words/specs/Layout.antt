@@ -2,21 +2,24 @@
 use Prim.Native.Nat.{ℕ, _+_, _*_}
 use Rattle.rules.specs.Numbers.{mostCards, mostBlocks, room}
 
--- the header: cards, blocks, how many wait in the line, how many are in the pool, the last order number
+-- the header: the edition, cards, blocks, how many wait in the line, how many are in the pool, the last order number
+abbrev pub editionAt : ℕ
+editionAt = 0
+
 abbrev pub cardsAt : ℕ
-cardsAt = 0
+cardsAt = 1
 
 abbrev pub blocksAt : ℕ
-blocksAt = 1
+blocksAt = 2
 
 abbrev pub waitingAt : ℕ
-waitingAt = 2
+waitingAt = 3
 
 abbrev pub pooledAt : ℕ
-pooledAt = 3
+pooledAt = 4
 
 abbrev pub lastAt : ℕ
-lastAt = 4
+lastAt = 5
 
 abbrev pub headWords : ℕ
 headWords = lastAt + 1

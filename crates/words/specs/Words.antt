@@ -3,9 +3,9 @@ use Prim.Native.Nat.{ℕ, zero, suc, _+_, _%_, _^_}
 use mathlib.Core.Bool.{Bool, cond, _&&_}
 use mathlib.Core.List.{List, [], _∷_, _++_}
 use lib.ListN.{length, getD}
-use lib.Dec.{ltb}
+use lib.Dec.{eqb, ltb}
 use Rattle.rules.specs.Lists.{same}
-use Rattle.rules.specs.Numbers.{mostCards, mostBlocks, maskBits, room, orderNo, retryNo}
+use Rattle.rules.specs.Numbers.{mostCards, mostBlocks, maskBits, room, orderNo, retryNo, editionNo}
 use Rattle.rules.specs.Chassis.{
   Block,
   Chassis,
@@ -20,11 +20,14 @@ use Rattle.rules.specs.Chassis.{
   unusedMessage,
 }
 use Rattle.rules.specs.Formed.{wellFormed}
+use Rattle.rules.specs.declared.Edition.{Edition}
+use Rattle.rules.specs.declared.Edition.the-variants.{Msi, Mosi}
 use Rattle.rules.specs.declared.OrderNo.{OrderNo}
 use Rattle.rules.specs.declared.Cell.{Cell}
 use Rattle.rules.specs.declared.Request.{Request}
 use Rattle.rules.specs.declared.Message.{Message}
 use Rattle.words.specs.Layout.{
+  editionAt,
   cardsAt,
   blocksAt,
   waitingAt,
@@ -43,8 +46,8 @@ unfoldable pub rows : ℕ → (ℕ → List ℕ) → List ℕ
 rows zero f = []
 rows (suc n) f = f zero ++ rows n (λ j. f (suc j))
 
-abbrev pub headRow : ℕ → ℕ → ℕ → ℕ → OrderNo → List ℕ
-headRow cards blocks waiting pooled last = cards ∷ blocks ∷ waiting ∷ pooled ∷ last .0 ∷ []
+abbrev pub headRow : Edition → ℕ → ℕ → ℕ → ℕ → OrderNo → List ℕ
+headRow e cards blocks waiting pooled last = editionNo e ∷ cards ∷ blocks ∷ waiting ∷ pooled ∷ last .0 ∷ []
 
 abbrev pub homeRow : ℕ → ℕ → ℕ → List ℕ
 homeRow memory owner sharers = memory ∷ owner ∷ sharers ∷ []
@@ -63,12 +66,19 @@ messageRow m = m .sender ∷ m .receiver ∷ m .block ∷ m .value ∷ m .number
 
 unfoldable pub words : Chassis → List ℕ
 words c =
-    headRow (c .cards) (c .blocks) (length (c .line)) (length (c .pool)) (c .last)
+    headRow (c .edition) (c .cards) (c .blocks) (length (c .line)) (length (c .pool)) (c .last)
     ++ (rows mostBlocks (λ b. blockRow (c .block b))
     ++ (rows room (λ i. requestRow (getD (c .line) i unusedRequest))
     ++ rows room (λ i. messageRow (getD (c .pool) i unusedMessage))))
 
 -- Reading one back
+
+-- an edition is what its word says; what is no edition's number is read as one that has another word
+abbrev pub asEdition : ℕ → Edition
+asEdition n = cond (eqb n (editionNo Msi)) Msi Mosi
+
+abbrev pub editionOf : List ℕ → Edition
+editionOf w = asEdition (getD w editionAt 0)
 
 abbrev pub cardsOf : List ℕ → ℕ
 cardsOf w = getD w cardsAt 0
@@ -129,7 +139,7 @@ module _ {A : Type 0} where
   first (suc n) f = f zero ∷ first n (λ j. f (suc j))
 
 unfoldable pub view : List ℕ → Chassis
-view w = aChassis (cardsOf w) (blocksOf w) (λ b. cond (ltb b mostBlocks) (blockOf w b) freshBlock)
+view w = aChassis (editionOf w) (cardsOf w) (blocksOf w) (λ b. cond (ltb b mostBlocks) (blockOf w b) freshBlock)
     (first (waitingOf w) (requestAt w)) (first (pooledOf w) (messageAt w)) (lastOf w)
 
 -- 15

@@ -3,16 +3,18 @@ use rules::numbers::MOST_BLOCKS;
 use rules::numbers::MOST_CARDS;
 use rules::numbers::ROOM;
 
-// The header: cards, blocks, how many wait in the line, how many are in the pool, the last order number.
-pub const CARDS_AT: usize = 0;
+// The header: the edition, cards, blocks, how many wait in the line, how many are in the pool, the last order number.
+pub const EDITION_AT: usize = 0;
 
-pub const BLOCKS_AT: usize = 1;
+pub const CARDS_AT: usize = 1;
 
-pub const WAITING_AT: usize = 2;
+pub const BLOCKS_AT: usize = 2;
 
-pub const POOLED_AT: usize = 3;
+pub const WAITING_AT: usize = 3;
 
-pub const LAST_AT: usize = 4;
+pub const POOLED_AT: usize = 4;
+
+pub const LAST_AT: usize = 5;
 
 pub const HEAD_WORDS: usize = LAST_AT + 1;
 

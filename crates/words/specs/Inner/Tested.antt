@@ -6,18 +6,20 @@ use lib.ListN.{getD}
 use lib.Dec.{eqb, ltb, leb}
 use Rattle.rules.specs.Tests.{each, all}
 use Rattle.rules.specs.Masks.{inside}
-use Rattle.rules.specs.Numbers.{mostCards, mostBlocks, room}
+use Rattle.rules.specs.Numbers.{mostCards, mostBlocks, room, editionNo}
 use Rattle.rules.specs.Chassis.{Block, idle, freshBlock, unusedRequest, unusedMessage}
 use Rattle.rules.specs.Formed.{sizes, homeOrCard, okCell, okRequest, okMessage}
+use Rattle.rules.specs.declared.Edition.the-variants.{Mosi}
 use Rattle.rules.specs.declared.Cell.{Cell}
 use Rattle.rules.specs.declared.Request.{Request}
 use Rattle.rules.specs.declared.Message.{Message}
-use Rattle.words.specs.Layout.{homePlace, cellPlace, requestPlace, messagePlace}
+use Rattle.words.specs.Layout.{editionAt, homePlace, cellPlace, requestPlace, messagePlace}
 use Rattle.words.specs.Words.{
   homeRow,
   cellRow,
   requestRow,
   messageRow,
+  editionOf,
   cardsOf,
   blocksOf,
   waitingOf,
@@ -38,7 +40,7 @@ rowIs w p (x ∷ xs) = eqb (getD w p 0) x && rowIs w (suc p) xs
 
 -- the header
 unfoldable pub headTest : List ℕ → Bool
-headTest w = sizes (cardsOf w) (blocksOf w) && leb (waitingOf w) room && leb (pooledOf w) room
+headTest w = leb (getD w editionAt 0) (editionNo Mosi) && sizes (cardsOf w) (blocksOf w) && leb (waitingOf w) room && leb (pooledOf w) room
 
 -- the words of home's part of block b, of card k's cell, of place i of the line and of the pool
 abbrev pub homeIs : List ℕ → ℕ → Block → Bool
@@ -56,7 +58,7 @@ messageIs w i m = rowIs w (messagePlace i) (messageRow m)
 -- card k's cell of block b, where so many cards have one
 unfoldable pub cellTest : List ℕ → ℕ → ℕ → ℕ → Bool
 cellTest w cards b k = cond (ltb k cards)
-    (cellIs w k b (cellAt w k b) && okCell (lastOf w) (cellAt w k b))
+    (cellIs w k b (cellAt w k b) && okCell (editionOf w) (lastOf w) (cellAt w k b))
     (cellIs w k b idle)
 
 -- block b: home's part, and the cells

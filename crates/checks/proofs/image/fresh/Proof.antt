@@ -6,16 +6,19 @@ use Rattle.checks.proofs.image.fresh.Statement.{statement}
 use Rattle.checks.proofs.image.fresh.Tie as tie
 
 abbrev Inv-loop : tie.InvT-loop
-Inv-loop cards blocks w₀ block₀ w block = Unit
+Inv-loop cards blocks edition w₀ block₀ w block = Unit
 
 abbrev μ-loop : tie.MeasureT-loop
-μ-loop cards blocks w₀ block₀ w block = mostBlocks - block
+μ-loop cards blocks edition w₀ block₀ w block = mostBlocks - block
 
 array-write-w : tie.Need-array-write-w Inv-loop μ-loop
 array-write-w c = search needs
 
 array-write-w-2 : tie.Need-array-write-w-2 Inv-loop μ-loop
 array-write-w-2 c = search needs
+
+array-write-w-3 : tie.Need-array-write-w-3 Inv-loop μ-loop
+array-write-w-3 c = search needs
 
 loop-holds : tie.Need-loop-holds Inv-loop μ-loop
 loop-holds c = search needs
@@ -55,6 +58,7 @@ fresh-spec =
     μ-loop
     array-write-w
     array-write-w-2
+    array-write-w-3
     loop-holds
     cast-home-at
     home-at-requires

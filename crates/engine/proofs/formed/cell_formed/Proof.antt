@@ -1,6 +1,7 @@
 -- `formed::cell_formed`: the words of the cell that is read and its test, or those of an idle cell.
 use borrow.Author.Tests.{lt-ltb, le-ltb}
 use borrow.Author.Needs.{needs}
+use Rattle.words.specs.Words.{editionOf}
 use Rattle.words.specs.Inner.Tested.{cellTest}
 use Rattle.engine.proofs.formed.cell_formed.Statement.{statement}
 use Rattle.engine.proofs.formed.cell_formed.Tie as tie
@@ -20,6 +21,9 @@ slice-aggregate-row-is c = search needs
 row-is-requires : tie.Need-row-is-requires
 row-is-requires c κs = search needs
 
+states-requires : tie.Need-states-requires
+states-requires c κs = search needs
+
 last-requires : tie.Need-last-requires
 last-requires c κs = search needs
 
@@ -29,18 +33,18 @@ ok-cell-requires c κs = search needs
 returns : tie.Need-returns
 unfolding cellTest
 returns c =
-    let c₂ = c .before .before in
-    let c₄ = c₂ .before .before in
-    let c₅ = c₄ .before in
+    let c₃ = c .before .before .before in
+    let c₅ = c₃ .before .before in
     let c₆ = c₅ .before in
+    let c₇ = c₆ .before in
     rw (
-      lt-ltb _ _ (c₆ .if1 .taken),
-      c₂ .row-is .ensures,
-      c₄ .cell-row .ensures,
-      c .ok-cell .ensures,
+      lt-ltb _ _ (c₇ .if1 .taken),
+      c₃ .row-is .ensures,
+      c₅ .cell-row .ensures,
+      c .ok-cell .ensures (editionOf (c₇ .before .before .args .s .now)) (c .before .before .states .ensures),
       c .before .last .ensures,
-      c₅ .cell-at .ensures,
-      c₆ .before .cell-place .ensures,
+      c₆ .cell-at .ensures,
+      c₇ .before .cell-place .ensures,
     )
 
 slice-aggregate-row-is-2 : tie.Need-slice-aggregate-row-is-2
@@ -62,6 +66,7 @@ cell-formed-spec =
     cell-row-requires
     slice-aggregate-row-is
     row-is-requires
+    states-requires
     last-requires
     ok-cell-requires
     returns

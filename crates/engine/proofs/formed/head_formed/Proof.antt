@@ -4,6 +4,9 @@ use Rattle.words.specs.Inner.Tested.{headTest}
 use Rattle.engine.proofs.formed.head_formed.Statement.{statement}
 use Rattle.engine.proofs.formed.head_formed.Tie as tie
 
+word-at-requires : tie.Need-word-at-requires
+word-at-requires c κs = search needs
+
 cards-requires : tie.Need-cards-requires
 cards-requires c κs = search needs
 
@@ -26,6 +29,7 @@ returns c =
     let c₃ = c₂ .before in
     let c₄ = c₃ .before in
     rw (
+      c₄ .before .word-at .ensures,
       c₂ .are-sizes .ensures,
       c₄ .cards .ensures,
       c₃ .blocks2 .ensures,
@@ -37,6 +41,7 @@ pub head-formed-spec : {M : Type 1} → statement M
 head-formed-spec =
     tie.close
     (tie.spec
+    word-at-requires
     cards-requires
     blocks-requires
     are-sizes-requires

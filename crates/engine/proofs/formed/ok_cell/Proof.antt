@@ -16,7 +16,7 @@ cast-result c = search needs
 returns : tie.Need-returns
 returns c =
     let looked = c .before .before .before .before .before .before in
-    cell-tested _ _ _ _ (looked .before .waits .ensures) (looked .loads .ensures)
+    λ e is. cell-tested e _ _ _ _ _ is (looked .before .waits .ensures) (looked .loads .ensures)
 
 pub ok-cell-spec : {M : Type 1} → statement M
 ok-cell-spec = tie.close (tie.spec waits-requires loads-requires cast-result returns)

@@ -15,6 +15,9 @@ returns c = not-formed _ _ (sym (c .before .is-formed .ensures) ∙ not-true _ (
 last-requires : tie.Need-last-requires
 last-requires c κs = search needs
 
+edition-requires : tie.Need-edition-requires
+edition-requires c κs = search needs
+
 cards-requires : tie.Need-cards-requires
 cards-requires c κs = search needs
 
@@ -30,9 +33,10 @@ pooled-requires c κs = search needs
 returns-2 : tie.Need-returns-2
 returns-2 c =
     let c₂ = c .before .before in
-    let c₄ = c₂ .before .before in
-    let f = sym (c₄ .before .before .is-formed .ensures) ∙ not-false _ (c₄ .before .if1 .left) in
-    counts-seen _ f _ _ _ _ _ (c₂ .before .cards .ensures) (c₂ .blocks2 .ensures) (c .before .waiting .ensures) (c .pooled .ensures) (c₄ .last .ensures)
+    let c₅ = c₂ .before .before .before in
+    let f = sym (c₅ .before .before .is-formed .ensures) ∙ not-false _ (c₅ .before .if1 .left) in
+    counts-seen _ f _ _ _ _ _ _ (c₂ .before .before .edition .ensures) (c₂ .before .cards .ensures) (c₂ .blocks2 .ensures) (c .before .waiting .ensures)
+    (c .pooled .ensures) (c₅ .last .ensures)
 
 pub counts-spec : {M : Type 1} → statement M
-counts-spec = tie.close (tie.spec is-formed-requires returns last-requires cards-requires blocks-requires waiting-requires pooled-requires returns-2)
+counts-spec = tie.close (tie.spec is-formed-requires returns last-requires edition-requires cards-requires blocks-requires waiting-requires pooled-requires returns-2)

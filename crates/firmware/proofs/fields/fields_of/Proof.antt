@@ -7,6 +7,9 @@ use Rattle.firmware.proofs.fields.fields_of.Tie as tie
 enum-known-one : tie.Need-enum-known-one
 enum-known-one c = search needs
 
+edition-no-requires : tie.Need-edition-no-requires
+edition-no-requires c κs = search needs
+
 seven-requires : tie.Need-seven-requires
 seven-requires c κs = search needs
 
@@ -17,7 +20,7 @@ event-fields-requires : tie.Need-event-fields-requires
 event-fields-requires c κs = search needs
 
 returns : tie.Need-returns
-returns c = fields-for _ _ _ (c .before .before .one .given .1) (c .seven .ensures)
+returns c = fields-for _ _ _ (c .before .before .before .one .given .1) (rw (← c .before .edition-no .ensures) (c .seven .ensures))
 
 returns-2 : tie.Need-returns-2
 returns-2 c = fields-for _ _ _ (c .before .before .one2 .given .1) (c .event-fields .ensures)
@@ -27,6 +30,7 @@ fields-of-spec =
     tie.close
     (tie.spec
     enum-known-one
+    edition-no-requires
     seven-requires
     enum-known-one-2
     event-fields-requires

@@ -1,14 +1,18 @@
 -- `fields::record_of`: each tag has its record.
 use Prim.Native.Nat.{ℕ}
-use mathlib.Core.Path.{sym, ap}
+use borrow.Author.Needs.{needs}
+use mathlib.Core.Path.{sym, ap, _∙_}
 use Rattle.firmware.specs.Fields.{named}
 use Rattle.firmware.proofs.Laws.{no-record}
 use Rattle.firmware.proofs.fields.record_of.Statement.{statement}
 use Rattle.firmware.proofs.fields.record_of.Tie as tie
 
+opening-of-requires : tie.Need-opening-of-requires
+opening-of-requires c κs = search needs
+
 returns : tie.Need-returns
 unfolding named
-returns c = let a = c .before .args in sym (ap (λ (t : ℕ). named t (a .card) (a .block) (a .kind) (a .mask) (a .value) (a .position)) (c .match .keys1))
+returns c = let a = c .before .before .args in c .opening-of .ensures ∙ sym (ap (λ (t : ℕ). named t (a .card) (a .block) (a .kind) (a .mask) (a .value) (a .position)) (c .before .match .keys1))
 
 returns-2 : tie.Need-returns-2
 unfolding named
@@ -54,6 +58,7 @@ pub record-of-spec : {M : Type 1} → statement M
 record-of-spec =
     tie.close
     (tie.spec
+    opening-of-requires
     returns
     returns-2
     returns-3

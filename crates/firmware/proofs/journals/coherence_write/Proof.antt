@@ -11,8 +11,8 @@ use Rattle.firmware.proofs.journals.coherence_write.Tie as tie
 record-of-requires : tie.Need-record-of-requires
 record-of-requires c κs = search needs
 
-enum-told : tie.Need-enum-told
-enum-told c = search needs
+enum-known-damage : tie.Need-enum-known-damage
+enum-known-damage c = search needs
 
 damage-no-requires : tie.Need-damage-no-requires
 damage-no-requires c κs = search needs
@@ -29,8 +29,8 @@ write-requires c κs = search needs
 enum-known-written : tie.Need-enum-known-written
 enum-known-written c = search needs
 
-enum-told-2 : tie.Need-enum-told-2
-enum-told-2 c = search needs
+enum-told : tie.Need-enum-told
+enum-told c = search needs
 
 written-no-requires : tie.Need-written-no-requires
 written-no-requires c κs = search needs
@@ -46,11 +46,11 @@ returns c =
     let m = c .before .before .before in
     let w = m .before .before .before in
     let o = w .before .before .before .before in
-    writes _ _ _ _ _ _ _ _ _ (sym (o .before .before .record-of .ensures) ∙ o .one .given .1) (c .before .before .enum-told2 .given .1) (w .write .ensures)
-    (c .refused2 .ensures ∙ ap (λ (x : ℕ). x * half) (c .before .written-no .ensures ∙ ap writtenNo (c .before .before .enum-told2 .given .1))) refl
+    writes _ _ _ _ _ _ _ _ _ (sym (o .before .before .record-of .ensures) ∙ o .one .given .1) (c .before .before .enum-told .given .1) (w .write .ensures)
+    (c .refused2 .ensures ∙ ap (λ (x : ℕ). x * half) (c .before .written-no .ensures ∙ ap writtenNo (c .before .before .enum-told .given .1))) refl
 
 returns-2 : tie.Need-returns-2
-returns-2 c = not-written _ _ _ _ (sym (c .before .before .before .before .record-of .ensures) ∙ c .before .before .enum-told .given .1)
+returns-2 c = not-written _ _ _ _ _ (sym (c .before .before .before .before .before .record-of .ensures) ∙ c .before .before .before .damage .given .1)
     (c .refused .ensures ∙ ap (λ (x : ℕ). x * half) (c .before .damage-no .ensures))
 
 same-length-2 : tie.Need-same-length-2
@@ -68,13 +68,13 @@ coherence-write-spec =
     tie.close
     (tie.spec
     record-of-requires
-    enum-told
+    enum-known-damage
     damage-no-requires
     refused-requires
     enum-known-one
     write-requires
     enum-known-written
-    enum-told-2
+    enum-told
     written-no-requires
     refused-requires-2
     same-length
