@@ -1,5 +1,9 @@
 // The mask test: whether the cards that a request names are enough.
+use crate::masks::every;
 use crate::masks::has;
+use crate::masks::only;
+use crate::masks::union;
+use crate::masks::without;
 use rules::Home;
 use rules::Mask;
 use rules::Request;
@@ -16,7 +20,7 @@ ghost use Rattle.rules.specs.Mask.{sharersNamed, suffices};
 ghost use Rattle.rules.specs.Formed.{homeOrCard};
 ghost use Rattle.words.specs.Inner.Parts.{HomeIs};
 
-// The owner is home or named; GETX needs also every sharer other than the asker.
+// The owner is home, the asker or named; GETX needs also every sharer other than the asker.
 pub(crate) fn suffices(cards: u64, home: Home, request: Request) -> bool
     requires { ⌜ (cards ≤ mostCards) × (request .card < mostCards) × (homeOrCard mostCards (home .owner) ≡ true) ⌝ }
     ensures { λ r. ⌜ ((B : Block) → HomeIs B home → r ≡ suffices cards B request) ⌝ }
@@ -41,18 +45,12 @@ fn owner_named(owner: u8, request: Request) -> bool
     has(request.mask, owner)
 }
 
-// The cards are walked one by one.
+// Of the cards that are there, no sharer is missed: every one but the asker is in the mask.
 fn sharers_named(cards: u64, sharers: Mask, request: Request) -> bool
     requires { ⌜ (cards ≤ mostCards) × (request .card < mostCards) ⌝ }
     ensures { λ r. ⌜ r ≡ sharersNamed cards sharers request ⌝ }
 {
-    let mask = request.mask;
-    let asker = request.card;
-    let mut named = true;
-    let mut card: u8 = 0;
-    while (card as u64) < cards {
-        named = named & (!has(sharers, card) | (card == asker) | has(mask, card));
-        card += 1;
-    }
-    named
+    let named = union(only(request.card), request.mask);
+    let missed = without(sharers, named);
+    (missed & every(cards)) == 0
 }

@@ -1,14 +1,16 @@
 -- Masks: their members, which of them name only cards that are there, and how code computes them.
-use Prim.Native.Nat.{ℕ, suc, _+_, _-_, _*_, _/_, _%_, _^_, _≤_, _<_}
+use Prim.Native.Nat.{ℕ, zero, suc, _+_, _-_, _*_, _/_, _%_, _^_, _≤_, _<_}
+use native.Mathlib.Numerals.{one-add}
 use native.Mathlib.Omega.{arith}
-use native.Mathlib.Nat.{div-self, div-eq-of-lt, mod-eq-of-lt, one-mul, pow-suc}
-use mathlib.Core.Bool.{true, false, not, _&&_, _||_}
+use native.Mathlib.Nat.{div-self, div-eq-of-lt, mod-eq-of-lt, mod-one, one-mul, pow-suc}
+use mathlib.Core.Bool.{Bool, true, false, not, _&&_, _||_}
 use mathlib.Core.Path.{_≡_, refl, sym, ap, subst, _∙_}
 use mathlib.Core.Logic.{_≢_}
 use lib.Dec.{ltb, leb, eqb}
-use lib.Pow.{pow-pos, pow-lt, pow-mono, pow-add, shl-shr, ones-lt, ones-split, high}
-use lib.Bits.{bitAnd, bitOr, bitXor, or-shr, or-mod, and-shr, and-mod, xor-shr, xor-mod, or-lt, and-lt, xor-lt}
-use borrow.Author.Tests.{eqb-true, eqb-false, ltb-true, ltb-false, lt-ltb, le-leb, lt-leb}
+use lib.Pow.{mod-pow-add, pow-pos, pow-lt, pow-mono, pow-add, shl-shr, ones-lt, ones-split, high}
+use lib.Bits.{and-mask, bitAnd, bitOr, bitXor, or-shr, or-mod, and-shr, and-mod, xor-shr, xor-mod, or-lt, and-lt, xor-lt}
+use borrow.Author.Tests.{eqb-true, eqb-false, ne-eqb, ltb-true, ltb-false, lt-ltb, le-leb, lt-leb}
+use Rattle.rules.specs.Tests.{all}
 use Rattle.rules.specs.Masks.{has, only, every, union, without, inside}
 use Rattle.rules.proofs.Tests.{test, or-i}
 
@@ -120,3 +122,27 @@ unfolding every inside
 inside-every n m e h = test (ltb m (2 ^ n))
     (λ p. rw (p, le-leb m e (let l = ltb-true m (2 ^ n) p in omega (arith, pow-pos n))))
     (λ p. rw (p, lt-leb m e (let l = ltb-false m (2 ^ n) p in omega (arith, pow-pos n))))
+
+-- a set has none of the n cards that are there exactly where a test holds of each of them, where the test fails for just those that it has
+pub none-there : (n m : ℕ) (f : ℕ → Bool) → ((k : ℕ) → k < n → has m k ≡ not (f k)) → eqb (bitAnd m (every n)) 0 ≡ all n f
+unfolding every has all
+none-there n m f h = rw (and-mask m n) (go n h)
+  where
+    digit-is : (k : ℕ) → f k ≡ true → has m k ≡ not (f k) → m / 2 ^ k % 2 ≡ 0
+    digit-is k e h = let d = eqb-false (m / 2 ^ k % 2) 1 (h ∙ ap not e) in omega arith
+
+    digit-not : (k : ℕ) → f k ≡ false → has m k ≡ not (f k) → m / 2 ^ k % 2 ≡ 1
+    digit-not k e h = eqb-true (m / 2 ^ k % 2) 1 (h ∙ ap not e)
+
+    go : (n : ℕ) → ((k : ℕ) → k < n → has m k ≡ not (f k)) → eqb (m % 2 ^ n) 0 ≡ all n f
+    go zero h = rw (mod-one m)
+    go (suc n) h =
+        let below = go n (λ k l. h k (omega arith)) in
+        let here = h n (omega arith) in
+        let split : (d : ℕ) → m / 2 ^ n % 2 ≡ d → m % 2 ^ suc n ≡ d * 2 ^ n + m % 2 ^ n
+        = λ d e. ap (λ k. m % 2 ^ k) (sym (one-add n)) ∙ mod-pow-add m 1 n ∙ ap (λ d. d * 2 ^ n + m % 2 ^ n) e in
+        test (f n)
+        (λ e. let same : m % 2 ^ suc n ≡ m % 2 ^ n = let z = split 0 (digit-is n e here) in omega arith in
+        ap (λ x. eqb x 0) same ∙ below ∙ ap (λ t. t && all n f) (sym e))
+        (λ e. let some = split 1 (digit-not n e here) in
+        ne-eqb (m % 2 ^ suc n) 0 (let p = pow-pos n in omega arith) ∙ ap (λ t. t && all n f) (sym e))

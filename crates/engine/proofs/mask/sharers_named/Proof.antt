@@ -1,72 +1,58 @@
--- `mask::sharers_named`: the sharers below the card reached are named.
-use Prim.Native.Nat.{_-_, _≤_}
+-- `mask::sharers_named`: of the cards that are there, none is in the set of the sharers that are missed.
+use Prim.Native.Nat.{ℕ}
 use borrow.Author.Needs.{needs}
-use native.Mathlib.Omega.{arith}
-use mathlib.Core.Bool.{Bool, true, false, not, _||_}
-use mathlib.Core.Path.{_≡_, refl}
+use borrow.Author.Tests.{eqb-true, eqb-false}
+use mathlib.Core.Bool.{Bool, true, false, not, _&&_, _||_}
+use mathlib.Core.Path.{_≡_, refl, sym}
 use lib.Dec.{eqb}
-use Rattle.rules.specs.Tests.{_⇒_, all}
-use Rattle.rules.specs.Masks.{has}
+use lib.Bits.{bitAnd}
+use Rattle.rules.specs.Tests.{_⇒_}
+use Rattle.rules.specs.Masks.{has, only, every, union, without}
 use Rattle.rules.specs.Mask.{sharersNamed}
-use Rattle.words.proofs.Checks.{all-none, all-more, all-done}
+use Rattle.rules.specs.declared.Request.{Request}
+use Rattle.rules.proofs.Tests.{test}
+use Rattle.rules.proofs.Masks.{has-union, has-without, has-only, has-only-other, none-there}
 use Rattle.engine.proofs.mask.sharers_named.Statement.{statement}
 use Rattle.engine.proofs.mask.sharers_named.Tie as tie
 
--- the code's test of one sharer
-named-test : (a a′ b c c′ : Bool) → a ≡ a′ → c ≡ c′ → (not a || b || c) ≡ (a′ ⇒ b || c′)
-named-test a a′ b c c′ e f = rw (e, f) (go a′)
+-- the mask of one card has that card alone
+only-has : (q k : ℕ) → has (only q) k ≡ eqb k q
+only-has q k = test (eqb k q)
+    (λ e. rw (e, eqb-true k q e) (has-only q))
+    (λ e. rw e (has-only-other q k (λ f. eqb-false k q e (sym f))))
+
+-- a sharer is missed that is neither the asker nor in the mask
+missed-has : (s q m k : ℕ) → has (without s (union (only q) m)) k ≡ not (has s k ⇒ eqb k q || has m k)
+missed-has s q m k = rw (has-without s (union (only q) m) k, has-union (only q) m k, only-has q k) (go (has s k))
   where
-    go : (t : Bool) → (not t || b || c′) ≡ (t ⇒ b || c′)
+    go : (a : Bool) → (a && not (eqb k q || has m k)) ≡ not (a ⇒ eqb k q || has m k)
     go true = refl
     go false = refl
 
-abbrev Inv-loop : tie.InvT-loop
-Inv-loop cards sharers mask asker named₀ card₀ named card =
-    (card ≤ cards) × (named ≡ all card (λ k. has sharers k ⇒ eqb k asker || has mask k))
-
-abbrev μ-loop : tie.MeasureT-loop
-μ-loop cards sharers mask asker named₀ card₀ named card = cards - card
-
-loop-holds : tie.Need-loop-holds Inv-loop μ-loop
-loop-holds c = (search needs, all-none _)
-
-cast-loop : tie.Need-cast-loop Inv-loop μ-loop
-cast-loop c = search needs
-
-has-requires : tie.Need-has-requires Inv-loop μ-loop
-has-requires c κs = search needs
-
-has-requires-2 : tie.Need-has-requires-2 Inv-loop μ-loop
-has-requires-2 c κs = search needs
-
-add-card : tie.Need-add-card Inv-loop μ-loop
-add-card c = search needs
-
-loop-less : tie.Need-loop-less Inv-loop μ-loop
-loop-less c = search needs
-
-loop-again : tie.Need-loop-again Inv-loop μ-loop
-loop-again c = (
-  search needs,
-  all-more _ _ _ (c .before .before .before .loop .inv .1) _
-      (named-test _ _ _ _ _ (c .before .has .ensures) (c .has2 .ensures)),
-)
-
-returns : tie.Need-returns Inv-loop μ-loop
+named-all : (cards sharers : ℕ) (r : Request) (a n m e : ℕ) → a ≡ only (r .card) → n ≡ union a (r .mask) → m ≡ without sharers n → e ≡ every cards
+    → eqb (bitAnd m e) 0 ≡ sharersNamed cards sharers r
 unfolding sharersNamed
-returns c = all-done _ _ _ (c .before .loop .inv .1) _ (omega arith)
+named-all cards sharers r a n m e ea en em ee =
+    rw (em, en, ea, ee)
+    (none-there cards (without sharers (union (only (r .card)) (r .mask))) (λ k. has sharers k ⇒ eqb k (r .card) || has (r .mask) k)
+    (λ k _. missed-has sharers (r .card) (r .mask) k))
+
+only-requires : tie.Need-only-requires
+only-requires c κs = search needs
+
+union-requires : tie.Need-union-requires
+union-requires c κs = search needs
+
+without-requires : tie.Need-without-requires
+without-requires c κs = search needs
+
+every-requires : tie.Need-every-requires
+every-requires c κs = search needs
+
+returns : tie.Need-returns
+returns c =
+    let c₂ = c .before .before in
+    named-all _ _ _ _ _ _ _ (c₂ .before .only .ensures) (c₂ .union .ensures) (c .before .without .ensures) (c .every .ensures)
 
 pub sharers-named-spec : {M : Type 1} → statement M
-sharers-named-spec =
-    tie.close
-    (tie.spec
-    Inv-loop
-    μ-loop
-    loop-holds
-    cast-loop
-    has-requires
-    has-requires-2
-    add-card
-    loop-less
-    loop-again
-    returns)
+sharers-named-spec = tie.close (tie.spec only-requires union-requires without-requires every-requires returns)
