@@ -15,7 +15,7 @@ use Rattle.rules.specs.Chassis.{Block, idle, goes, storing, with_cell}
 use Rattle.rules.specs.Events.{takes, rejoin_block}
 use Rattle.rules.specs.declared.Cell.{Cell}
 use Rattle.rules.specs.declared.Message.{Message}
-use Rattle.rules.proofs.Tests.{clash, test, cond_cases, false-if}
+use Rattle.rules.proofs.Tests.{clash, test, false-if}
 use Rattle.rules.proofs.Lists.{replace-cases, replace-same, All-map, All-keep}
 use Rattle.rules.proofs.Masks.{has-without-other}
 use Rattle.rules.proofs.Board.{Write, pick, here, not_by}

@@ -1,15 +1,14 @@
 -- A well formed state stays well formed under every event.
 use Prim.Native.Nat.{ℕ, suc, ◌+◌, ◌≤◌, ◌<◌}
 use native.Mathlib.Omega.{arith}
-use mathlib.Core.Bool.{Bool, true, false, not, ◌&&◌, ◌||◌, true≢false}
+use mathlib.Core.Bool.{Bool, true, false, not, ◌&&◌, true≢false}
 use mathlib.Core.List.{List, [], ◌∷◌, ◌++◌}
 use mathlib.Core.Path.{◌≡◌, refl, sym, subst}
 use lib.ListN.{length, length-append}
 use lib.Dec.{eqb, leb}
 use borrow.Author.Tests.{eqb-true, eqb-false, eq-eqb, ne_eqb, ltb-true, lt-ltb, le-leb, leb-true, leb-false, not-false}
-use Rattle.rules.specs.Tests.{◌⇒◌}
 use Rattle.rules.specs.Lists.{removed, keep, All}
-use Rattle.rules.specs.Masks.{has, only, every, without, inside}
+use Rattle.rules.specs.Masks.{only, every, without, inside}
 use Rattle.rules.specs.Mask.{suffices}
 use Rattle.rules.specs.Numbers.{
   most_cards,
@@ -96,16 +95,9 @@ use Rattle.rules.specs.declared.Event.TheVariants.{
   Copy,
   Rejoin,
 }
-use Rattle.rules.proofs.Tests.{clash, test, cond_cases, and_i, and_l, and_r, or-i, imp, imp-i, any→, all-intro, some-false}
+use Rattle.rules.proofs.Tests.{clash, test, cond_cases, and_l, and_r, or-i, imp, imp-i, any→, some-false}
 use Rattle.rules.proofs.Lists.{replace-cases, All-map, All-append, All-removed, All-at, All-keep, removed-short, keep-short}
-use Rattle.rules.proofs.Masks.{
-  has-every,
-  only-inside,
-  union-inside,
-  without-inside,
-  every-inside,
-  none_inside,
-}
+use Rattle.rules.proofs.Masks.{only-inside, union-inside, without-inside, every-inside, none_inside}
 use Rattle.rules.proofs.Mask.{every-suffices}
 use Rattle.rules.proofs.States.{in-states, state, filled, asking, asks}
 use Rattle.rules.proofs.Refusals.{refused-cases}

@@ -1,17 +1,15 @@
 -- Every event keeps the invariant.
-use Prim.Native.Nat.{ℕ, suc, ◌≤◌, ◌<◌}
+use Prim.Native.Nat.{ℕ, ◌≤◌, ◌<◌}
 use native.Mathlib.Omega.{arith}
-use mathlib.Core.Bool.{Bool, true, false, cond, not, ◌&&◌, ◌||◌, true≢false}
+use mathlib.Core.Bool.{Bool, true, false, cond, not, ◌&&◌, true≢false}
 use mathlib.Core.List.{List, [], ◌∷◌, ◌++◌, append-nil}
 use mathlib.Core.Path.{◌≡◌, refl, sym, ◌∙◌, ap, subst}
 use mathlib.Core.Logic.{◌≢◌}
 use lib.ListN.{length}
 use lib.Dec.{eqb, leb}
-use borrow.Author.Tests.{eqb-true, eq-eqb, ne_eqb, leb-true, leb-false, not-true, not-false}
-use Rattle.rules.specs.Tests.{◌⇒◌}
+use borrow.Author.Tests.{eqb-true, eq-eqb, leb-true, leb-false, not-true, not-false}
 use Rattle.rules.specs.Lists.{replace, removed, keep, All}
-use Rattle.rules.specs.Masks.{has}
-use Rattle.rules.specs.Numbers.{home, next_number, same_number, first_retry, gets, putx, granted, too_small, put_taken, put_lapsed, none}
+use Rattle.rules.specs.Numbers.{next_number, same_number, first_retry, gets, putx, granted, too_small, put_taken, put_lapsed, none}
 use Rattle.rules.specs.Table.{stores, drops, asked, waits, comes_from}
 use Rattle.rules.specs.Chassis.{
   Block,
@@ -63,7 +61,7 @@ use Rattle.rules.specs.declared.Event.TheVariants.{
   Copy,
   Rejoin,
 }
-use Rattle.rules.proofs.Tests.{clash, cond_cases, and_l, and_r, imp, all-elim}
+use Rattle.rules.proofs.Tests.{clash, cond_cases, and_l, and_r}
 use Rattle.rules.proofs.Lists.{
   replace-cases,
   replace-same,

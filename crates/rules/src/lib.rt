@@ -1,18 +1,20 @@
 // The rules of the chassis: the paper's kinds, its numbers by name, and its card state table. The kinds stand in the root, since the prover's
 // time grows with the length of their paths. What the events do is defined in specs/; docs/READING.md says in which order to read it.
+#![tactic(auto)]
+
 pub mod numbers;
 pub mod table;
 
 // An order number: what home gives each ordered request, and what a reply is matched by.
-#[derive(Drop)]
+#[derive(Clone, Copy)]
 pub struct OrderNo(pub u64);
 
 // A retry number: how often a request has gone back to the line. No reply is matched by it.
-#[derive(Drop)]
+#[derive(Clone, Copy)]
 pub struct RetryNo(pub u8);
 
 // The edition of the protocol, chosen at Start.
-#[derive(Drop)]
+#[derive(Clone, Copy)]
 pub enum Edition {
     Msi,
     Mosi,
@@ -22,7 +24,7 @@ pub enum Edition {
 pub type Mask = u8;
 
 // What home has for a block. The owner is a card or home.
-#[derive(Drop)]
+#[derive(Clone, Copy)]
 pub struct Home {
     pub memory: u32,
     pub owner: u8,
@@ -30,7 +32,7 @@ pub struct Home {
 }
 
 // What a card has for a block.
-#[derive(Drop)]
+#[derive(Clone, Copy)]
 pub struct Cell {
     pub state: u8,
     pub value: u32,
@@ -38,7 +40,7 @@ pub struct Cell {
 }
 
 // A request that waits in the line.
-#[derive(Drop)]
+#[derive(Clone, Copy)]
 pub struct Request {
     pub card: u8,
     pub block: u8,
@@ -48,7 +50,7 @@ pub struct Request {
 }
 
 // A data message that waits in the pool. The sender is a card or home.
-#[derive(Drop)]
+#[derive(Clone, Copy)]
 pub struct Message {
     pub sender: u8,
     pub receiver: u8,
@@ -58,7 +60,7 @@ pub struct Message {
 }
 
 // The events other than Start. Every byte may be any byte: what is out of range is refused.
-#[derive(Drop)]
+#[derive(Clone, Copy)]
 pub enum Event {
     Load {
         card: u8,
@@ -92,7 +94,7 @@ pub enum Event {
 }
 
 // Why the engine says no: a case for each number of the paper's list, from 1 to 15.
-#[derive(Drop)]
+#[derive(Clone, Copy)]
 pub enum Refusal {
     NoSuchCard,
     NoSuchBlock,
@@ -112,14 +114,14 @@ pub enum Refusal {
 }
 
 // What an event answers: a value (a load's, an outcome, else 0), or a refusal.
-#[derive(Drop)]
+#[derive(Clone, Copy)]
 pub enum Answer {
     Done(u32),
     Refused(Refusal),
 }
 
 // What comes of the request at the head of the line. What a granted GETS does goes by the edition.
-#[derive(Drop)]
+#[derive(Clone, Copy)]
 pub enum Turn {
     GetsGranted(Edition),
     GetxGranted,
