@@ -3,7 +3,7 @@ use Prim.Native.Nat.{ℕ, ◌+◌, ◌-◌, ◌*◌, ◌≤◌, ◌<◌}
 use native.Mathlib.Omega.{arith}
 use mathlib.Core.List.{List, [], ◌∷◌, ◌++◌}
 use mathlib.Core.Path.{◌≡◌, refl, sym, ap, ◌∙◌}
-use lib.ListN.{length, set}
+use lib.ListN.{set}
 use Rattle.rules.specs.Lists.{replace, removed}
 use Rattle.rules.specs.Numbers.{most_cards, most_blocks, room}
 use Rattle.rules.specs.Chassis.{

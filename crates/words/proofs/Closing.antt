@@ -1,7 +1,7 @@
 -- The places of the line or of the pool: one more at the tail, and one that leaves while the later ones close up.
 -- What holds of both is stated once, over the kind of item, the width of its row and the words around the places.
 use Prim.Native.Nat.{ℕ, zero, suc, ◌+◌, ◌-◌, ◌*◌, ◌≤◌, ◌<◌}
-use native.Mathlib.Nat.{add-zero, zero-add, add-suc, suc-add, mul-suc, mul-add, mul-le-mul_left}
+use native.Mathlib.Nat.{add-zero, zero-add, suc-add, mul-suc, mul-add, mul-le-mul_left}
 use native.Mathlib.Numerals.{add-one}
 use native.Mathlib.Omega.{arith}
 use mathlib.Core.Bool.{cond}

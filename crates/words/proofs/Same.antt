@@ -12,22 +12,7 @@ use borrow.Author.Tests.{eqb-true, eq-eqb}
 use Rattle.rules.specs.Numbers.{most_cards, most_blocks, room, edition_no}
 use Rattle.rules.specs.Chassis.{Block, unused_request, unused_message}
 use Rattle.rules.proofs.Tests.{and_l, and_r, and_i}
-use Rattle.words.specs.Layout.{
-  head_words,
-  home_words,
-  cell_words,
-  block_words,
-  place_words,
-  blocks_from,
-  line_from,
-  pool_from,
-  home_place,
-  cell_place,
-  request_place,
-  message_place,
-  all_words,
-  edition_at,
-}
+use Rattle.words.specs.Layout.{head_words, home_words, cell_words, block_words, place_words, line_from, pool_from, home_place, cell_place, request_place, message_place, all_words, edition_at}
 use Rattle.words.specs.Words.{
   rows,
   head_row,
