@@ -60,9 +60,9 @@ def read_edit(path):
     """The pairs of an edit."""
     file, old, wrong, pairs = "", "", None, []
     for line in path.read_text(encoding="utf-8").split("\n"):
-        word, _, rest = line.partition(": ")
+        word, _, rest = line.partition(": ") if line != "new:" else ("new", "", "")
         if word == "file":
-            file, wrong = rest, None
+            file, wrong = rest.strip(), None
         elif word == "for":
             function, _, words = rest.partition(": ")
             wrong = Wrong(function, words)
