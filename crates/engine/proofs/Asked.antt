@@ -1,5 +1,5 @@
 -- Ask: each way that it ends.
-use Prim.Native.Nat.{ℕ, ◌^◌, ◌≤◌, ◌<◌}
+use Prim.Native.Nat.{ℕ, ◌≤◌, ◌<◌}
 use native.Mathlib.Omega.{arith}
 use mathlib.Core.Bool.{true, false, not, ◌&&◌, ◌||◌}
 use mathlib.Core.List.{List, [], ◌∷◌, ◌++◌}
@@ -7,8 +7,7 @@ use mathlib.Core.Path.{◌≡◌, refl, sym, ◌∙◌, ap}
 use mathlib.Core.Logic.{◌≢◌, inl, inr}
 use lib.ListN.{length}
 use lib.Dec.{eqb, leb, ltb}
-use lib.Pow.{pow_pos}
-use borrow.Author.Tests.{eq-eqb, ne_eqb, le-leb, lt-leb, le-ltb, lt-ltb, ltb-true, ltb-false}
+use borrow.Author.Tests.{eq-eqb, ne_eqb, le-leb, lt-leb, ltb-true, ltb-false}
 use Rattle.rules.specs.Masks.{inside}
 use Rattle.rules.specs.Numbers.{room, first_retry, gets, putx, none}
 use Rattle.rules.specs.Table.{asked}

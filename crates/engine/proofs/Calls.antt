@@ -5,7 +5,7 @@ use mathlib.Core.List.{List, [], ◌∷◌}
 use mathlib.Core.Path.{◌≡◌, refl, sym, ap, ap₂, subst, ◌∙◌}
 use Rattle.rules.specs.Chassis.{Chassis}
 use Rattle.rules.specs.Events.{step, start}
-use Rattle.rules.specs.History.{Did, did, Run, run}
+use Rattle.rules.specs.History.{Did, did, run}
 use Rattle.rules.specs.Demand.{Coherent}
 use Rattle.rules.specs.declared.Answer.{Answer}
 use Rattle.rules.specs.declared.Answer.TheVariants.{Done, Refused}

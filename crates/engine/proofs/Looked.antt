@@ -1,16 +1,14 @@
 -- What a look on words shows is what the chassis has that they say.
 use Prim.Native.Nat.{ℕ, ◌≤◌, ◌<◌}
-use mathlib.Core.Bool.{true, false, cond}
+use mathlib.Core.Bool.{true, false}
 use mathlib.Core.List.{List}
 use mathlib.Core.Path.{◌≡◌, refl, sym, ap, ◌∙◌}
-use lib.ListN.{length}
 use lib.Dec.{leb}
 use borrow.Author.Tests.{leb-false, le-leb, lt-leb}
 use native.Mathlib.Omega.{arith}
 use Rattle.rules.specs.Events.{no_card, no_block, no_message}
 use Rattle.rules.specs.declared.Edition.{Edition}
 use Rattle.rules.specs.declared.OrderNo.{OrderNo}
-use Rattle.rules.specs.declared.Home.{Home}
 use Rattle.rules.specs.declared.Cell.{Cell}
 use Rattle.rules.specs.declared.Request.{Request}
 use Rattle.rules.specs.declared.Message.{Message}
@@ -18,29 +16,12 @@ use Rattle.rules.specs.Numbers.{most_blocks}
 use Rattle.rules.specs.declared.Refusal.{Refusal}
 use Rattle.rules.specs.declared.Refusal.TheVariants.{NoSuchBlock, NoSuchMessage, IllFormed}
 use Rattle.rules.proofs.Tests.{test}
-use Rattle.words.specs.Words.{
-  view,
-  formed,
-  edition_of,
-  cards_of,
-  blocks_of,
-  waiting_of,
-  pooled_of,
-  last_of,
-  cell_at,
-  request_at,
-  message_at,
-  memory_at,
-  owner_at,
-  sharers_at,
-}
+use Rattle.words.specs.Words.{view, formed, edition_of, cards_of, blocks_of, waiting_of, pooled_of, last_of, request_at, message_at, memory_at, owner_at, sharers_at}
 use Rattle.words.proofs.View.{view-block, view-cell, waiting-is, pooled-is, view-request, view-message}
 use Rattle.words.proofs.Does.{sizes}
 use Rattle.engine.specs.Inner.Sought.{sought}
 use Rattle.engine.specs.Looking.{Look, counts, message, request, cell, home, unless, looks}
-use Rattle.engine.specs.declared.Counts.{Counts}
 use Rattle.engine.specs.declared.Seen.{Seen}
-use Rattle.engine.specs.declared.Seen.TheVariants as Seen
 use Rattle.engine.specs.declared.cells.Sought.{Sought}
 use Rattle.engine.specs.declared.cells.Sought.TheVariants.{There, Missing}
 

@@ -21,8 +21,7 @@ use Rattle.rules.specs.Marked.{
   marked_table,
 }
 use Rattle.rules.specs.declared.Answer.{Answer}
-use Rattle.rules.specs.declared.Answer.TheVariants.{Done, Refused}
-use Rattle.rules.specs.declared.Refusal.{Refusal}
+use Rattle.rules.specs.declared.Answer.TheVariants.{Refused}
 use Rattle.rules.specs.declared.Refusal.TheVariants.{IllFormed}
 use Rattle.rules.specs.declared.Event.{Event}
 use Rattle.rules.specs.declared.Event.TheVariants.{Load, Store, Drop, Ask, Order, Deliver, Copy, Rejoin}
@@ -32,7 +31,7 @@ use Rattle.rules.proofs.Marked.{marked-hold}
 use Rattle.words.specs.Words.{words, view, formed}
 use Rattle.words.proofs.View.{formed-of}
 use Rattle.words.proofs.Keeps.{fresh-view, step-says}
-use Rattle.engine.specs.Promise.{Starts, Answers}
+use Rattle.engine.specs.Promise.{Answers}
 use Rattle.engine.specs.Calls.{Comes, MarkedCome}
 use Rattle.rules.specs.declared.Edition.{Edition}
 use Rattle.rules.specs.declared.Edition.TheVariants.{Msi}

@@ -8,7 +8,6 @@ use Rattle.rules.specs.declared.Refusal.TheVariants.{NoSuchMessage, IllFormed}
 use Rattle.words.specs.Words.{view, formed}
 use Rattle.engine.specs.declared.Counts.{Counts}
 use Rattle.engine.specs.declared.Seen.{Seen}
-use Rattle.engine.specs.declared.Seen.TheVariants as Seen
 
 -- the edition and the counts; a message of the pool and a request of the line, by position; a card's cell; home's part of a block
 pub data Look : Type 0 where

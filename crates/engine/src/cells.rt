@@ -10,7 +10,7 @@ use rules::{Answer, Cell, Refusal, table};
 use words::layout::WORDS;
 
 // A card's cell for a block, or why there is none.
-#[derive(Drop)]
+#[derive(Clone, Copy)]
 pub(crate) enum Sought {
     There(Cell),
     Missing(Refusal),

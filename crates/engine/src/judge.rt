@@ -15,7 +15,7 @@ use rules::{Cell, Home, Refusal, Request, Turn, table};
 use words::layout::WORDS;
 
 // What is decided: a refusal, or the turn.
-#[derive(Drop)]
+#[derive(Clone, Copy)]
 pub(crate) enum Judged {
     No(Refusal),
     Yes(Turn),

@@ -1,4 +1,6 @@
 // The engine: the chassis as words that the caller lends, changed in place.
+#![tactic(auto)]
+
 mod ask;
 mod cells;
 pub mod events;
@@ -21,7 +23,7 @@ mod turns;
 use rules::{Cell, Edition, Home, Message, OrderNo, Refusal, Request};
 
 // The edition of a chassis, how much there is in it, and the last order number given.
-#[derive(Drop)]
+#[derive(Clone, Copy)]
 pub struct Counts {
     pub edition: Edition,
     pub cards: u64,
@@ -32,7 +34,7 @@ pub struct Counts {
 }
 
 // What a look shows, or why it shows nothing.
-#[derive(Drop)]
+#[derive(Clone, Copy)]
 pub enum Seen {
     Counts(Counts),
     Message(Message),

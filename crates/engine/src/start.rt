@@ -11,7 +11,7 @@ use rules::{Answer, Edition, Home, Refusal};
 use words::layout::WORDS;
 
 // What Start answers, and the words that it makes.
-#[derive(Drop)]
+#[derive(Clone, Copy)]
 pub struct Started {
     pub answer: Answer,
     pub state: [u64; WORDS],
