@@ -227,7 +227,7 @@ pub record EveryEntry : Type 2 where
   pub look_home : Keeps looks-home.ended looks-home-code.name looks-home-code.code (λ κs a r end. r ≡ looks a.0.now (home a.1.0))
   -- a record read, and the place to read at next; by a reader too
   pub read : Keeps reading-read.ended reading-read-code.name reading-read-code.code (λ κs a r end. r ≡ read_at a.0.now a.1.0)
-  pub place_after : Keeps reading-place-after.ended reading-place-after-code.name reading-place-after-code.code (λ κs a r end. r ≡ place_after a.1.0 a.0)
+  pub next_place : Keeps reading-place-after.ended reading-place-after-code.name reading-place-after-code.code (λ κs a r end. r ≡ place_after a.1.0 a.0)
   pub reader_new : Keeps reader_new.ended reader_new-code.name reader_new-code.code (λ κs a r end. (r.journal ≡ a.0) × (r.at ≡ a.1.0))
   pub reader_next : Keeps reader_next.ended reader_next-code.name reader_next-code.code (λ κs a r end. r ≡ read_at a.0.journal.now a.0.at)
   pub reader_after : Keeps reader_after.ended reader_after-code.name reader_after-code.code (λ κs a r end. (r.journal ≡ a.0.journal) × (r.at ≡ place_after a.0.at a.1.0))
