@@ -66,7 +66,7 @@ use Rattle.firmware.specs.Sizes.{header_version}
 use Rattle.firmware.specs.Editions.{start_byte, StartsByte}
 use Rattle.firmware.specs.Claims.{ByteStarts, FieldsName, StartSaysUnique, EventSaysUnique, ReadsUnique, WritesUnique, RunSaysUnique, ShowsUnique}
 use Rattle.firmware.specs.declared.Named.{Named}
-use Rattle.bench.specs.Replaying.{Replays, ReplaysUnique}
+use Rattle.bench.specs.Replaying.{Replays, Reads as ReadsFrom, Writes as WritesTo, ReplaysUnique}
 use Rattle.engine.specs.contracts.start.start as start-start
 use Rattle.engine.proofs.start.start.Symbol as start-start-code
 use Rattle.engine.specs.contracts.start.start_in as start_in
@@ -199,7 +199,8 @@ use Rattle.rules.specs.contracts.table.granted_to as table-granted-to
 use Rattle.rules.proofs.table.granted_to.Symbol as table-granted-to-code
 use Rattle.rules.specs.contracts.table.filled_to as table-filled-to
 use Rattle.rules.proofs.table.filled_to.Symbol as table-filled-to-code
-use Rattle.demands.specs.Entry.{Keeps}
+use contract.BorrowLft.{◌⊑◌}
+use Rattle.demands.specs.Entry.{Keeps, KeepsOver}
 
 -- The list of entries. `Keeps f P`: whatever f is given, it ends, and then P holds (Entry). In P, a.0 is the first argument, a.1.0 the
 -- second, a.1.1.0 the third and so on, r or n the result, end.0 the first argument at the end; `now` is what a reference refers to.
@@ -259,8 +260,8 @@ pub record EveryEntry : Type 2 where
   pub c_cell : Keeps coherence-cell.ended coherence-cell-code.name coherence-cell-code.code (λ κs a n end. Shows a.0.now (cell a.1.0 a.1.1.0) a.1.1.1.0.now n end.1.1.1.0.now)
   pub c_home : Keeps coherence-home.ended coherence-home-code.name coherence-home-code.code (λ κs a n end. Shows a.0.now (home a.1.0) a.1.1.0.now n end.1.1.0.now)
   pub c_version : Keeps coherence-version.ended coherence-version-code.name coherence-version-code.code (λ κs a n end. n ≡ header_version)
-  -- a replay through the operating system, which decides how much is read and taken; of its calls the contracts of `libc` are assumed
-  pub replay : Keeps bench-replay.ended bench-replay-code.name bench-replay-code.code (λ κs a r end. Replays end.1.1.0.now r)
+  -- a replay from any reader to any writer, which decide how much is read and taken; of their calls the contracts of Read and Write are assumed
+  pub replay : KeepsOver (λ s. bench-replay.ended s.Reader s.Writer s.reader s.read_by s.writer s.written_by) bench-replay-code.name bench-replay-code.code (λ s κs. (κs.1.1.1.0 ⊑ s.Reader.lives) × (κs.1.1.1.1.0 ⊑ s.Writer.lives)) (λ s κs a r end. (Replays end.1.1.0.now r) × (ReadsFrom (s.reader.remaining a.0.now) (s.reader.remaining end.0.now) end.1.1.0.now r) × (WritesTo (s.writer.contents a.1.0.now) (s.writer.contents end.1.0.now) end.1.1.0.now r))
   -- the columns of the card state table
   pub loads : Keeps table-loads.ended table-loads-code.name table-loads-code.code (λ κs a r end. r ≡ loads a.0)
   pub stores : Keeps table-stores.ended table-stores-code.name table-stores-code.code (λ κs a r end. r ≡ stores a.0)
