@@ -2,7 +2,7 @@
 --
 -- `EveryEntry` says what each public function promises: Starts and Answers (engine/specs/Promise), Runs (engine/specs/Running), read_at and
 -- Puts (journal/specs), looks (engine/specs/Looking), for C Says, StartsByte, Reads, Writes, RunSays and Shows (firmware/specs), and for the bench
--- Replays (bench/specs). All else is claimed of whatever keeps these promises. What they say is in the rules (rules/specs), the words of a
+-- Replays, and its Reads and Writes (bench/specs). All else is claimed of whatever keeps these promises. What they say is in the rules (rules/specs), the words of a
 -- chassis (words/specs) and the records (journal/specs), each in the paper's words. EventFits and Bytes say of numbers what the kinds u32
 -- and u8 say of the arguments.
 use Rattle.std.specs.Prelude.{ℕ, ◌+◌, ◌/◌, ◌%◌, true, false, cond, List, [], ◌∷◌, ◌++◌, ◌≡◌, ◌≢◌, length}
@@ -55,7 +55,6 @@ use Rattle.engine.specs.Running.{Runs, RunsUnique, NextFit, RunsEnd, RunsJoin, O
 use Rattle.engine.specs.Calls.{CallsAreCoherent, MarkedCome}
 use Rattle.engine.specs.Looking.{Look, counts, message, request, cell, home, look_reasons, shown, looks}
 use Rattle.engine.specs.declared.Seen.{Seen}
-use Rattle.engine.specs.declared.Seen.TheVariants as Seen
 use Rattle.engine.specs.declared.run.Reached.{Reached}
 use Rattle.engine.specs.declared.run.Ran.TheVariants as Ran
 use Rattle.firmware.specs.Halves.{half, Says}
@@ -202,8 +201,9 @@ use Rattle.rules.proofs.table.filled_to.Symbol as table-filled-to-code
 use contract.BorrowLft.{◌⊑◌}
 use Rattle.demands.specs.Entry.{Keeps, KeepsOver}
 
--- The list of entries. `Keeps f P`: whatever f is given, it ends, and then P holds (Entry). In P, a.0 is the first argument, a.1.0 the
--- second, a.1.1.0 the third and so on, r or n the result, end.0 the first argument at the end; `now` is what a reference refers to.
+-- The list of entries. `Keeps f.ended f-code.name f-code.code P`: whatever f is given, it ends, and then P holds (Entry). In P, a.0 is the
+-- first argument, a.1.0 the second, a.1.1.0 the third and so on, r or n the result, end.0 the first argument at the end; `now` is what a
+-- reference refers to.
 pub record EveryEntry : Type 2 where
   -- Start, with the words that it makes, or in words that are lent
   pub start : Keeps start-start.ended start-start-code.name start-start-code.code (λ κs a r end. Starts a.0 a.1.0 a.1.1.0 r.answer r.state)

@@ -7,7 +7,7 @@ use prog.Routine.{Callee}
 use prog.Wired.{Code, Wired}
 use types.Logic.{Logic}
 use contract.Lifetimes.{Lfts}
-use contract.Notation.{Connectives, connectives}
+use contract.Notation.{connectives}
 use contract.Running.{Running}
 use denote.Param.{bounded}
 use denote.Param.Laws.{Laws}
