@@ -2,9 +2,9 @@
 --
 -- `EveryEntry` says what each public function promises: Starts and Answers (engine/specs/Promise), Runs (engine/specs/Running), read_at and
 -- Puts (journal/specs), looks (engine/specs/Looking), for C Says, StartsByte, Reads, Writes, RunSays and Shows (firmware/specs), and for the bench
--- Replays, and its Reads and Writes (bench/specs). All else is claimed of whatever keeps these promises. What they say is in the rules (rules/specs), the words of a
--- chassis (words/specs) and the records (journal/specs), each in the paper's words. EventFits and Bytes say of numbers what the kinds u32
--- and u8 say of the arguments.
+-- Replays, and its own Reads and Writes (bench/specs). All else is claimed of whatever keeps these promises. What they say is in the rules
+-- (rules/specs), the words of a chassis (words/specs) and the records (journal/specs), each in the paper's words. EventFits and Bytes say of
+-- numbers what the kinds u32 and u8 say of the arguments.
 use Rattle.std.specs.Prelude.{ℕ, ◌+◌, ◌/◌, ◌%◌, true, false, cond, List, [], ◌∷◌, ◌++◌, ◌≡◌, ◌≢◌, length}
 use Rattle.rules.specs.Tests.{one_of}
 use Rattle.rules.specs.Table.{
@@ -241,7 +241,7 @@ pub record EveryEntry : Type 2 where
   pub refusal_of : Keeps numbers-refusal-of.ended numbers-refusal-of-code.name numbers-refusal-of-code.code (λ κs a r end. r ≡ refusal_of a.0)
   pub damage_no : Keeps numbers-damage-no.ended numbers-damage-no-code.name numbers-damage-no-code.code (λ κs a r end. r ≡ damage_no a.0)
   pub written_no : Keeps numbers-written-no.ended numbers-written-no-code.name numbers-written-no-code.code (λ κs a r end. r ≡ written_no a.0)
-  -- the exports for C: n is the number that is answered
+  -- the exports for C: n is the number that is answered. The static library firmware_c exports each under its name, with the same contract
   pub c_start : Keeps coherence-start.ended coherence-start-code.name coherence-start-code.code (λ κs a n end. Says (λ r. StartsByte a.1.0 a.1.1.0 a.1.1.1.0 r end.0.now) n)
   pub c_load : Keeps coherence-load.ended coherence-load-code.name coherence-load-code.code (λ κs a n end. Says (λ r. Answers a.0.now (Load a.1.0 a.1.1.0) r a.0.now) n)
   pub c_store : Keeps coherence-store.ended coherence-store-code.name coherence-store-code.code (λ κs a n end. Says (λ r. Answers a.0.now (Store a.1.0 a.1.1.0 a.1.1.1.0) r end.0.now) n)
