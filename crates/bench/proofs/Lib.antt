@@ -1,4 +1,5 @@
--- What reading once gives, what a run's promise says of what is handed on, and that a replay's promise leaves no second answer.
-pub mod Reading
+-- What a run's promise says of what is handed on, which bytes a reader gives and a writer takes, and that a replay's promise leaves no second
+-- answer.
 pub mod Handing
+pub mod Streams
 pub mod Replaying

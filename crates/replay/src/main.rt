@@ -1,16 +1,14 @@
 // Replays the journal on standard input: one line a record on standard output.
-use bench::{JOURNAL_ROOM, Replayed, replay};
-use libc::{STDERR_FILENO, STDIN_FILENO, STDOUT_FILENO};
+#![tactic(auto)]
 
-fn main() {
+use bench::{JOURNAL_ROOM, Replayed, replay};
+
+fn main(rt: HostRuntime) {
     let mut journal = [0u8; JOURNAL_ROOM];
-    match replay(STDIN_FILENO, STDOUT_FILENO, &mut journal) {
-        Replayed::Whole { read: _, taken: _ } => {}
-        Replayed::NotRead => {
-            io::write_all(STDERR_FILENO, b"replay: the journal could not be read\n");
-        }
-        Replayed::NotWritten { read: _, taken: _ } => {
-            io::write_all(STDERR_FILENO, b"replay: the lines could not be written\n");
-        }
-    }
+    // What cannot be told on standard error is not told.
+    let _ = match replay(&mut rt.stdin(), &mut rt.stdout(), &mut journal) {
+        Replayed::Whole { read: _, taken: _ } => Ok(()),
+        Replayed::NotRead => eprintln!(rt; "replay: the journal could not be read"),
+        Replayed::NotWritten { read: _, taken: _ } => eprintln!(rt; "replay: the lines could not be written"),
+    };
 }
