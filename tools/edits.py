@@ -162,8 +162,8 @@ def names_in(text):
 
 
 def broken(log, crate):
-    """The lemmas of a crate that fail, because of a fact or since one fails on which they rest; and, as `FUNCTION_spec`, the functions of
-    which a fact fails. The prover names three of the lemmas of a file that rest on one that failed, and counts the others: of these one
+    """The lemmas of a crate that fail, because of a fact or since one fails on which they rest; and, as `FUNCTION_spec`, the functions whose
+    proofs do. The prover names three of the lemmas of a file that rest on one that failed, and counts the others: of these one
     in that file fails whose text has the name of a lemma that does."""
     lemmas = {plain(found[1]) for one in facts(log) if (found := re.match(r"`([^`]+)`: ", one.words))}
     resting, counted = set(), set()
@@ -181,7 +181,8 @@ def broken(log, crate):
         resting |= {(plain(lemma), on) for lemma, text in texts.items() for on in names_in(text) - {plain(lemma)}}
     while more := {lemma for lemma, on in resting if on in lemmas} - lemmas:
         lemmas |= more
-    return lemmas | {f"{name}_spec" for one in facts(log) if (name := of_function(crate, one))}
+    failing = facts(log) + [one for one in said(log) if (found := REST.match(one.words)) and plain(found[1]) in lemmas]
+    return lemmas | {f"{name}_spec" for one in failing if (name := of_function(crate, one))}
 
 
 def of_function(crate, one):
