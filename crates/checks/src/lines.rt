@@ -5,7 +5,7 @@ ghost use Rattle.std.specs.Prelude.{◌<◌, ◌≤◌, length};
 pub(crate) const NUMBERS: usize = 7;
 
 // What a line says, and where its name begins.
-#[derive(Drop)]
+#[derive(Clone, Copy)]
 pub(crate) struct Line {
     pub(crate) letter: u8,
     pub(crate) numbers: [u64; NUMBERS],
@@ -13,7 +13,7 @@ pub(crate) struct Line {
 }
 
 // A number, and the place behind it.
-#[derive(Drop)]
+#[derive(Clone, Copy)]
 struct Number {
     value: u64,
     next: usize,

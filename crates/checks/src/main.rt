@@ -1,4 +1,6 @@
 // What the paper says is run, on the engine that is linked: the script on stdin, line by line; what it tells is held to the file stdout.
+#![tactic(auto)]
+
 mod image;
 mod lines;
 mod named;

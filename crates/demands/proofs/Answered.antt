@@ -7,7 +7,7 @@ use mathlib.Core.Path.{◌≡◌, refl, sym, ap, subst, ◌∙◌}
 use mathlib.Core.Logic.{◌≢◌, inl, inr}
 use lib.ListN.{length, drop}
 use lib.Dec.{eqb}
-use Rattle.rules.specs.Chassis.{Chassis, no_chassis}
+use Rattle.rules.specs.Chassis.{no_chassis}
 use Rattle.rules.specs.Answers.{refusal_of, value_of, Result, Reason, refused_by, FirstHolds, NoneHolds}
 use Rattle.rules.specs.Formed.{sizes}
 use Rattle.rules.specs.Events.{reasons, effect, EventFits, step, start}
@@ -32,16 +32,14 @@ use Rattle.words.specs.Inner.Parts.{act}
 use Rattle.words.proofs.View.{formed-words, formed-chassis}
 use Rattle.words.proofs.Does.{step-act}
 use Rattle.words.proofs.Keeps.{step-says, fresh-view}
-use Rattle.engine.specs.Promise.{Starts, Answers}
+use Rattle.engine.specs.Promise.{Answers}
 use Rattle.engine.specs.Running.{fit, standing, ran, Runs}
-use Rattle.engine.specs.Looking.{Look, look_reasons, shown, unless, looks}
+use Rattle.engine.specs.Looking.{look_reasons, shown, unless, looks}
 use Rattle.engine.specs.declared.Seen.{Seen}
-use Rattle.engine.specs.declared.Seen.TheVariants as Seen
 use Rattle.engine.specs.declared.run.Reached.{Reached}
 use Rattle.engine.specs.declared.run.Ran.{Ran}
-use Rattle.engine.specs.declared.run.Ran.TheVariants as Ran
 use Rattle.engine.proofs.Marked.{start-means}
-use Rattle.firmware.specs.Halves.{half, Says}
+use Rattle.firmware.specs.Halves.{half}
 use Rattle.firmware.specs.Journals.{found_number, fields_after, Writes, reached_in, ran_number, standing_after}
 use Rattle.firmware.specs.Looks.{seen_number, seen_after}
 use Rattle.firmware.specs.declared.Named.{Named}

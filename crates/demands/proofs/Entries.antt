@@ -1,4 +1,12 @@
 -- Every entry keeps its promise: its own theorem says so.
+use seplogic.Ra.Ura.{Ura}
+use base.Logic.{SProp, ent, sep, id⊢, via, mono_r, fst∗, snd∗}
+use types.Logic.{sem}
+use contract.Monad.{fact, fact_i, fact_use, fact_hold, conj, conj_i, top}
+use contract.BorrowLft.{◌⊑◌}
+use denote.Ask.Run.{routine_mono}
+use denote.Triple.Clauses.{Ended, lasts}
+use denote.Triple.Weaken.{weaken_under}
 use Rattle.engine.proofs.start.start.Met as start
 use Rattle.engine.proofs.start.start_in.Met as start_in
 use Rattle.engine.proofs.events.load.Met as events-load
@@ -46,7 +54,10 @@ use Rattle.firmware.proofs.looks.coherence_request.Met as coherence-request
 use Rattle.firmware.proofs.looks.coherence_cell.Met as coherence-cell
 use Rattle.firmware.proofs.looks.coherence_home.Met as coherence-home
 use Rattle.firmware.proofs.version.coherence_version.Met as coherence-version
-use Rattle.bench.proofs.replay.Met as bench-replay
+use Rattle.bench.specs.contracts.replay as bench-replay
+use Rattle.bench.proofs.replay.Met as bench-replay-met
+use Rattle.bench.proofs.replay.Symbol as bench-replay-code
+use Rattle.bench.specs.Replaying.{Replays, Reads as ReadsFrom, Writes as WritesTo}
 use Rattle.rules.proofs.table.loads.Met as table-loads
 use Rattle.rules.proofs.table.stores.Met as table-stores
 use Rattle.rules.proofs.table.asks_gets.Met as table-asks-gets
@@ -65,7 +76,38 @@ use Rattle.rules.proofs.table.put_stands.Met as table-put-stands
 use Rattle.rules.proofs.table.leaves_sharers.Met as table-leaves-sharers
 use Rattle.rules.proofs.table.granted_to.Met as table-granted-to
 use Rattle.rules.proofs.table.filled_to.Met as table-filled-to
+use Rattle.demands.specs.Entry.{Streams, Lends, Promise, promised, KeepsOver}
 use Rattle.demands.specs.Demands.{EveryEntry}
+
+abbrev ended : Streams → Ended
+ended s = bench-replay.ended s.Reader s.Writer s.reader s.read_by s.writer s.written_by
+
+abbrev lends : (s : Streams) → Lends (ended s)
+lends s κs = (κs.1.1.1.0 ⊑ s.Reader.lives) × (κs.1.1.1.1.0 ⊑ s.Writer.lives)
+
+abbrev says : (s : Streams) → Promise (ended s)
+says s κs a r end = (Replays end.1.1.0.now r) × (ReadsFrom (s.reader.remaining a.0.now) (s.reader.remaining end.0.now) end.1.1.0.now r) × (WritesTo (s.writer.contents a.1.0.now) (s.writer.contents end.1.0.now) end.1.1.0.now r)
+
+beside : {M : Type 1} (𝓤 : Ura M) (φ : Type 0) (P Q : SProp 𝓤) → φ → ent 𝓤 P Q → ent 𝓤 P (sep 𝓤 (fact 𝓤 φ) Q)
+beside 𝓤 φ P Q x h = via 𝓤 (conj 𝓤 (fact 𝓤 φ) Q) (conj_i 𝓤 (fact 𝓤 φ) Q (fact_i 𝓤 φ P x) h) (fact_hold 𝓤 φ Q)
+
+together : {M : Type 1} (𝓤 : Ura M) (φ ψ χ : Type 0) → ent 𝓤 (sep 𝓤 (fact 𝓤 φ) (sep 𝓤 (fact 𝓤 ψ) (fact 𝓤 χ))) (fact 𝓤 (φ × ψ × χ))
+together 𝓤 φ ψ χ =
+    let F : Type 0 → SProp 𝓤 = fact 𝓤 in
+    fact_use 𝓤 φ (fst∗ 𝓤 (F φ) (sep 𝓤 (F ψ) (F χ))) (λ x.
+    fact_use 𝓤 ψ (via 𝓤 (sep 𝓤 (F ψ) (F χ)) (snd∗ 𝓤 (F φ) (sep 𝓤 (F ψ) (F χ))) (fst∗ 𝓤 (F ψ) (F χ))) (λ y.
+    fact_use 𝓤 χ (via 𝓤 (sep 𝓤 (F ψ) (F χ)) (snd∗ 𝓤 (F φ) (sep 𝓤 (F ψ) (F χ))) (snd∗ 𝓤 (F ψ) (F χ))) (λ z.
+    fact_i 𝓤 (φ × ψ × χ) (sep 𝓤 (F φ) (sep 𝓤 (F ψ) (F χ))) (x, y, z))))
+
+-- its own theorem says the three facts one by one
+replay : KeepsOver ended bench-replay-code.name bench-replay-code.code lends says
+replay M 𝓤 𝓛 𝓜 𝓡 wired s R W r w =
+    weaken_under 𝓛 (ended s) (bench-replay.clauses s.Reader s.Writer s.reader s.read_by s.writer s.written_by 𝓛 𝓜.mem 𝓡.returns)
+    (promised 𝓤 (ended s) (lends s) (says s)) (λ κs a g. tt) (λ κs a g. lends s κs) (λ κs a g. id⊢ 𝓤 _)
+    (λ κs a g l. beside 𝓤 _ _ _ l.0 (beside 𝓤 _ _ _ l.1 (top 𝓤 _)))
+    (λ κs a g l res ws. mono_r 𝓤 (sem 𝓛 (lasts (ended s) κs a ws)) (together 𝓤 _ _ _))
+    _ (routine_mono 𝓤 𝓛.H 𝓜 𝓡 _)
+    (bench-replay-met.met 𝓤 𝓛 𝓜 𝓡 wired s.Reader s.Writer R W s.reader s.read_by s.writer s.written_by r w)
 
 pub every-entry : EveryEntry
 every-entry = record {
@@ -87,7 +129,7 @@ every-entry = record {
   look_cell = λ M. looks-cell.met;
   look_home = λ M. looks-home.met;
   read = λ M. reading-read.met;
-  place_after = λ M. reading-place-after.met;
+  next_place = λ M. reading-place-after.met;
   reader_new = λ M. reader_new.met;
   reader_next = λ M. reader_next.met;
   reader_after = λ M. reader_after.met;
@@ -116,7 +158,7 @@ every-entry = record {
   c_cell = λ M. coherence-cell.met;
   c_home = λ M. coherence-home.met;
   c_version = λ M. coherence-version.met;
-  replay = λ M. bench-replay.met;
+  replay = replay;
   loads = λ M. table-loads.met;
   stores = λ M. table-stores.met;
   asks_gets = λ M. table-asks-gets.met;

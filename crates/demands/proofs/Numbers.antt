@@ -1,5 +1,5 @@
 -- Every refusal has a number of the list, and in C it stands in the upper half of what is answered.
-use Prim.Native.Nat.{ℕ, ◌*◌, ◌/◌, ◌^◌}
+use Prim.Native.Nat.{ℕ, ◌*◌, ◌/◌}
 use native.Mathlib.Omega.{arith}
 use mathlib.Core.Bool.{true}
 use mathlib.Core.List.{List}
@@ -26,7 +26,6 @@ use Rattle.rules.specs.declared.Refusal.TheVariants.{
   NoSuchSize,
   IllFormed,
 }
-use Rattle.rules.specs.declared.Event.{Event}
 use Rattle.journal.specs.Reading.{damage_no, read_at}
 use Rattle.journal.specs.Writing.{written_no}
 use Rattle.journal.specs.declared.Damage.{Damage}
@@ -35,13 +34,10 @@ use Rattle.journal.specs.declared.Found.{Found}
 use Rattle.journal.specs.declared.Found.TheVariants.{Whole, End, Damaged}
 use Rattle.journal.specs.declared.Written.{Written}
 use Rattle.journal.specs.declared.Written.TheVariants.{UpTo, NoRoom}
-use Rattle.engine.specs.Promise.{Starts, Answers}
 use Rattle.engine.specs.Looking.{looks}
 use Rattle.engine.specs.declared.Seen.{Seen}
-use Rattle.engine.specs.declared.Seen.TheVariants as Seen
 use Rattle.engine.specs.declared.run.Ran.{Ran}
-use Rattle.engine.specs.declared.run.Ran.TheVariants as Ran
-use Rattle.firmware.specs.Halves.{half, Says}
+use Rattle.firmware.specs.Halves.{half}
 use Rattle.firmware.specs.Journals.{found_number, ran_number, Writes}
 use Rattle.firmware.specs.Looks.{seen_number}
 use Rattle.firmware.specs.declared.Named.{Named}

@@ -7,7 +7,6 @@ use Rattle.rules.specs.declared.Event.TheVariants.{Load, Store, Drop, Ask, Order
 use Rattle.journal.specs.declared.Record.{Record}
 use Rattle.journal.specs.declared.Record.TheVariants.{Opening, Happens}
 use Rattle.engine.specs.declared.Seen.{Seen}
-use Rattle.engine.specs.declared.Seen.TheVariants as Seen
 use Rattle.firmware.specs.Fields.{fields}
 use Rattle.firmware.specs.Looks.{seen_after}
 use Rattle.firmware.specs.Sizes.{header_fields, header_seen}

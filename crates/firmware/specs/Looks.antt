@@ -4,7 +4,6 @@ use Rattle.rules.specs.Numbers.{edition_no}
 use Rattle.rules.specs.Answers.{refusal_no}
 use Rattle.engine.specs.Looking.{Look, looks}
 use Rattle.engine.specs.declared.Seen.{Seen}
-use Rattle.engine.specs.declared.Seen.TheVariants as Seen
 use Rattle.firmware.specs.Halves.{half}
 
 -- 0, or the refusal

@@ -14,7 +14,7 @@ use journal::{Damage, Record};
 use rules::{Edition, Event};
 
 // How many numbers a record has.
-pub(crate) const FIELDS: usize = 7;
+pub const FIELDS: usize = 7;
 
 // The numbers of a record.
 pub(crate) fn fields_of(one: Record) -> [u64; FIELDS]

@@ -13,15 +13,10 @@ use journal::{Found, Written};
 use words::layout::WORDS;
 
 // How many numbers say where a run stands: the number and the place of the next record, and how many bytes of text the last piece has.
-pub(crate) const STANDING: usize = 3;
+pub const STANDING: usize = 3;
 
 // Reads the record at a place: its fields, and the place after it. The end and damage keep the place and the fields.
-#[unsafe(no_mangle)]
-pub extern "C" fn coherence_read(
-    journal: &[u8],
-    place: &mut usize,
-    fields: &mut [u64; FIELDS],
-) -> u64
+pub fn coherence_read(journal: &[u8], place: &mut usize, fields: &mut [u64; FIELDS]) -> u64
     ensures { Reads journal.now place.old fields.old result place.new fields.new }
 {
     let read = read_on(journal, *place);
@@ -38,8 +33,7 @@ pub extern "C" fn coherence_read(
 }
 
 // Writes the record of a tag and its fields at a place, and moves the place behind it. A refusal keeps the place and the buffer.
-#[unsafe(no_mangle)]
-pub extern "C" fn coherence_write(
+pub fn coherence_write(
     buffer: &mut [u8],
     place: &mut usize,
     tag: u8,
@@ -67,8 +61,7 @@ pub extern "C" fn coherence_write(
 }
 
 // Runs over a journal from where a run stands, into a text: one piece, after which there may be more.
-#[unsafe(no_mangle)]
-pub extern "C" fn coherence_run(
+pub fn coherence_run(
     state: &mut [u64; WORDS],
     journal: &[u8],
     standing: &mut [u64; STANDING],

@@ -1,4 +1,7 @@
-// The engine for C: numbers and pointers only, total over any input. include/coherence.h declares these functions.
+// The engine for C: numbers and pointers only, total over any input. The crate firmware_c exports these functions, which include/coherence.h
+// declares.
+#![tactic(auto)]
+
 pub mod chassis;
 mod editions;
 mod fields;
@@ -7,10 +10,11 @@ pub mod journals;
 pub mod looks;
 pub mod version;
 
+pub use fields::FIELDS;
 use journal::{Damage, Record};
 
 // The record that numbers name, or why they name none.
-#[derive(Drop)]
+#[derive(Clone, Copy)]
 pub enum Named {
     One(Record),
     No(Damage),

@@ -10,7 +10,7 @@ use journal::numbers::refusal_no;
 use words::layout::WORDS;
 
 // How many numbers a look shows.
-pub(crate) const SEEN: usize = 6;
+pub const SEEN: usize = 6;
 
 // What is seen, in numbers; a refusal keeps those that there were.
 fn show(what: Seen, seen: &mut [u64; SEEN]) -> u64
@@ -68,53 +68,35 @@ fn show(what: Seen, seen: &mut [u64; SEEN]) -> u64
 }
 
 // The edition, the sizes, how many wait and how many messages there are, and the last order number.
-#[unsafe(no_mangle)]
-pub extern "C" fn coherence_counts(state: &[u64; WORDS], seen: &mut [u64; SEEN]) -> u64
+pub fn coherence_counts(state: &[u64; WORDS], seen: &mut [u64; SEEN]) -> u64
     ensures { Shows state.now counts seen.old result seen.new }
 {
     show(looks::counts(state), seen)
 }
 
 // A message of the pool.
-#[unsafe(no_mangle)]
-pub extern "C" fn coherence_message(
-    state: &[u64; WORDS],
-    position: u8,
-    seen: &mut [u64; SEEN],
-) -> u64
+pub fn coherence_message(state: &[u64; WORDS], position: u8, seen: &mut [u64; SEEN]) -> u64
     ensures { Shows state.now (message position) seen.old result seen.new }
 {
     show(looks::message(state, position), seen)
 }
 
 // A request of the line.
-#[unsafe(no_mangle)]
-pub extern "C" fn coherence_request(
-    state: &[u64; WORDS],
-    position: u8,
-    seen: &mut [u64; SEEN],
-) -> u64
+pub fn coherence_request(state: &[u64; WORDS], position: u8, seen: &mut [u64; SEEN]) -> u64
     ensures { Shows state.now (request position) seen.old result seen.new }
 {
     show(looks::request(state, position), seen)
 }
 
 // A card's cell for a block.
-#[unsafe(no_mangle)]
-pub extern "C" fn coherence_cell(
-    state: &[u64; WORDS],
-    card: u8,
-    block: u8,
-    seen: &mut [u64; SEEN],
-) -> u64
+pub fn coherence_cell(state: &[u64; WORDS], card: u8, block: u8, seen: &mut [u64; SEEN]) -> u64
     ensures { Shows state.now (cell card block) seen.old result seen.new }
 {
     show(looks::cell(state, card, block), seen)
 }
 
 // Home's part of a block.
-#[unsafe(no_mangle)]
-pub extern "C" fn coherence_home(state: &[u64; WORDS], block: u8, seen: &mut [u64; SEEN]) -> u64
+pub fn coherence_home(state: &[u64; WORDS], block: u8, seen: &mut [u64; SEEN]) -> u64
     ensures { Shows state.now (home block) seen.old result seen.new }
 {
     show(looks::home(state, block), seen)

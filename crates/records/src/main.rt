@@ -1,4 +1,6 @@
 // Records written into a lent buffer and read from it: each kind, where there is no room, and what is not read.
+#![tactic(auto)]
+
 use journal::numbers::{damage_no, written_no};
 use journal::reading::{place_after, read};
 use journal::writing::write;
