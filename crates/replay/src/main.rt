@@ -9,6 +9,8 @@ fn main(rt: HostRuntime) {
     let _ = match replay(&mut rt.stdin(), &mut rt.stdout(), &mut journal) {
         Replayed::Whole { read: _, taken: _ } => Ok(()),
         Replayed::NotRead => eprintln!(rt; "replay: the journal could not be read"),
-        Replayed::NotWritten { read: _, taken: _ } => eprintln!(rt; "replay: the lines could not be written"),
+        Replayed::NotWritten { read: _, taken: _ } => eprintln!(rt;
+            "replay: the lines could not be written"
+        ),
     };
 }
