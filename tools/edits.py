@@ -2,25 +2,34 @@
 
 An edit is a file that `rt must-fail` reads: `file:` lines, each for the `old:` and `new:` pairs after it. `rt` passes over other lines,
 so a line `for: FUNCTION: WORDS` says which wrong answer of which public function the pairs after it try, and a line `breaks: LEMMA`
-which lemma has to fail: a claim, or that a function keeps its promise.
+which lemma has to fail: a claim, or, by the name `FUNCTION_spec`, that a function keeps its promise. In the names of lemmas `-` and `_`
+count as one.
 """
 import re
 from typing import NamedTuple, Optional
 
-FUNCTION = re.compile(r'^(?:pub(?:\(crate\))? )?(?:extern "C" )?fn (\w+)')
+FUNCTION = re.compile(r'^(\s*)(?:pub(?:\(\w+\))? )?(?:extern "C" )?fn (\w+)')
 
 # What the prover says where a fact fails, as against a proof that no longer has the code's form: no name that the proof uses is gone,
 # and what differs is not the code that a walk by hand goes through. A note on a proof, such as of its trial runs, is no failure of its own.
 FACT = re.compile(
     r"the two (?:types|sides) (?:first differ|differ|are)|expected type|does not follow from what it read|give a proof of that|no proof of|it is not proved that"
 )
-FORM = re.compile(r"^`walk`:|^note: |has no field|can be named from here")
+FORM = re.compile(r"^`walk`:|^note: |has no field|can be named from here|is not in scope|is no name")
 # Two sides that the prover compared late, on the lines behind an error.
 LATE = re.compile(r"^  ≟ .*\n  does not hold", re.M)
-# A lemma that fails since another did.
-RESTS = re.compile(r"^`([^`]+)`: `([^`]+)` was not admitted")
+# Lemmas that fail since another did: one by one, or those of a file, three of them by name.
+RESTS = re.compile(r"^`([^`]+)`: `([^`]+)` was (?:not admitted|rejected)")
+REST = re.compile(r"^\d+ declarations? that depends? on `([^`]+)`, which was (?:not admitted|rejected), (?:was|were) not checked: (.*)$")
+MORE = re.compile(r" and \d+ more$")
+# Where a lemma begins.
+SIGNATURE = re.compile(r"^( *)(?:(?:abbrev|unfoldable|pub) )*([^\s:(){},;.]+) :(?=\s)", re.M)
+# The prover's word on a crate. Where libraries below it are built too, the last one is the crate's.
+VERDICT = re.compile(r"^logic=(proved|not-proved)\b", re.M)
 # An error of a proof, and a note on a function that the prover walks by itself, with its place in the crate.
 SAID = re.compile(r"^(?:note: )?(?:\S*/)?((?:src|specs|proofs)/\S+?):(\d+):\d+: (?:error: )?(.*)")
+# What it says of a function whose calls it could not go by, since what they call is not proved.
+CALLS = re.compile(r"^fn \S+::(\w+): (?:not proved|no proof)[;:] it calls ", re.M)
 
 
 class Wrong(NamedTuple):
@@ -51,9 +60,9 @@ def read_edit(path):
     """The pairs of an edit."""
     file, old, wrong, pairs = "", "", None, []
     for line in path.read_text(encoding="utf-8").split("\n"):
-        word, _, rest = line.partition(": ")
+        word, _, rest = line.partition(": ") if line != "new:" else ("new", "", "")
         if word == "file":
-            file, wrong = rest, None
+            file, wrong = rest.strip(), None
         elif word == "for":
             function, _, words = rest.partition(": ")
             wrong = Wrong(function, words)
@@ -64,21 +73,40 @@ def read_edit(path):
     return pairs
 
 
-def misfits(crate, path):
-    """The pairs of an edit whose old text is not just once in its file, with the pairs before it made; as `rt must-fail` reads them."""
+def made(crate, pairs):
+    """The files of a crate with these pairs made, and those whose old text is not just once in its file; as `rt must-fail` reads them."""
     texts, found = {}, []
-    for pair in read_edit(path):
+    for pair in pairs:
         file = crate / pair.file
-        text = texts.get(pair.file) or (file.read_text(encoding="utf-8") if file.is_file() else "")
-        if text.count(pair.old) != 1:
+        if pair.file not in texts:
+            texts[pair.file] = file.read_text(encoding="utf-8") if file.is_file() else ""
+        if texts[pair.file].count(pair.old) != 1:
             found.append(pair)
-        texts[pair.file] = text.replace(pair.old, pair.new, 1)
-    return found
+        texts[pair.file] = texts[pair.file].replace(pair.old, pair.new, 1)
+    return texts, found
+
+
+def misfits(crate, path):
+    """The pairs of an edit whose old text is not just once in its file, with the pairs before it made."""
+    return made(crate, read_edit(path))[1]
+
+
+def function_of(crate, pair):
+    """The function of src/ that a pair makes wrong, or none."""
+    if not pair.wrong or not pair.file.startswith("src/"):
+        return None
+    text = (crate / pair.file).read_text(encoding="utf-8")
+    return function_at(text, line_of(text, pair.old))
+
+
+def plain(name):
+    """The name of a lemma, as it is compared."""
+    return name.replace("-", "_")
 
 
 def to_break(path):
     """The lemmas that an edit has to break."""
-    return [line.partition(": ")[2] for line in path.read_text(encoding="utf-8").split("\n") if line.startswith("breaks: ")]
+    return [line.partition(": ")[2].strip() for line in path.read_text(encoding="utf-8").split("\n") if line.startswith("breaks: ")]
 
 
 def function_spans(text):
@@ -88,10 +116,10 @@ def function_spans(text):
     for number, line in enumerate(lines, 1):
         if found := FUNCTION.match(line):
             first = number
-            while first > 1 and lines[first - 2].startswith("#["):
+            while first > 1 and lines[first - 2].startswith(f"{found[1]}#["):
                 first -= 1
-            last = next((n for n in range(number, len(lines) + 1) if lines[n - 1] == "}"), number)
-            spans.append((found[1], first, last))
+            last = next((n for n in range(number, len(lines) + 1) if lines[n - 1] == f"{found[1]}}}"), number)
+            spans.append((found[2], first, last))
     return spans
 
 
@@ -120,20 +148,67 @@ def facts(log):
     return [one for one in said(log) if FACT.search(one.words) and not FORM.search(one.words)]
 
 
-def broken(log):
-    """The lemmas that fail: because of a fact, or since one fails on which they rest."""
-    lemmas = {found[1] for one in facts(log) if (found := re.match(r"`([^`]+)`: ", one.words))}
-    resting = {found.groups() for one in said(log) if (found := RESTS.match(one.words))}
+def declarations(text):
+    """The lemmas of a file of proofs: each name, with all that stands from its signature to the next one that stands no deeper."""
+    text = re.sub(r"(?m)--.*$", "", text)
+    heads = [(len(found[1]), found[2], found.start()) for found in SIGNATURE.finditer(text)]
+    ends = [next((at for deep, _, at in heads[i + 1:] if deep <= head[0]), len(text)) for i, head in enumerate(heads)]
+    return {name: text[at:end] for (_, name, at), end in zip(heads, ends)}
+
+
+def names_in(text):
+    """The names that stand in a text, as they are compared."""
+    return {plain(name) for name in re.findall(r"[^\s(){}\[\],;.`]+", text)}
+
+
+def broken(log, crate):
+    """The lemmas of a crate that fail, because of a fact or since one fails on which they rest; and, as `FUNCTION_spec`, the functions of
+    which a fact fails. The prover names three of the lemmas of a file that rest on one that failed, and counts the others: of these one
+    in that file fails whose text has the name of a lemma that does."""
+    lemmas = {plain(found[1]) for one in facts(log) if (found := re.match(r"`([^`]+)`: ", one.words))}
+    resting, counted = set(), set()
+    for one in said(log):
+        if found := RESTS.match(one.words):
+            resting.add((plain(found[1]), plain(found[2])))
+        elif found := REST.match(one.words):
+            named = MORE.sub("", found[2])
+            resting |= {(plain(name.partition(" ")[0]), plain(found[1])) for name in named.split(", ")}
+            if named != found[2]:
+                counted.add(one.file)
+    for file in counted:
+        path = crate / file
+        texts = declarations(path.read_text(encoding="utf-8")) if path.is_file() else {}
+        resting |= {(plain(lemma), on) for lemma, text in texts.items() for on in names_in(text) - {plain(lemma)}}
     while more := {lemma for lemma, on in resting if on in lemmas} - lemmas:
         lemmas |= more
-    return lemmas
+    return lemmas | {f"{name}_spec" for one in facts(log) if (name := of_function(crate, one))}
+
+
+def of_function(crate, one):
+    """The function that the prover spoke of, by its proof's folder or its place in the source, or none."""
+    if found := re.match(r"proofs/(?:\S+/)?(\w+)/\w+\.antt$", one.file):
+        return found[1]
+    path = crate / one.file
+    return function_at(path.read_text(encoding="utf-8"), one.line) if one.file.startswith("src/") and path.is_file() else None
+
+
+def verdict(log):
+    """Whether the crate is `proved` or `not-proved`, or none where the prover did not come to it."""
+    found = VERDICT.findall(log)
+    return found[-1] if found else None
+
+
+def waits(log, function):
+    """Whether the prover did not judge a function since what it calls is not proved."""
+    return function in CALLS.findall(log)
 
 
 def fails(found, file, text, function):
-    """Whether one of these is of the function: in its own proof, or in its source."""
+    """Whether one of these is of the function: in its own proof, or in its source. A method's proof stands in a folder of its type's."""
     module = file[len("src/"): -len(".rt")]
-    proof = f"proofs/{function}/" if module in ("lib", "main") else f"proofs/{module}/{function}/"
+    above = "" if module in ("lib", "main") else f"{module}/"
+    proof = re.compile(rf"proofs/{re.escape(above)}(?:[A-Z]\w*/)?{re.escape(function)}/")
     return any(
-        one.file.startswith(proof) or (one.file == file and function_at(text, one.line) == function)
+        proof.match(one.file) or (one.file == file and function_at(text, one.line) == function)
         for one in found
     )

@@ -9,7 +9,7 @@ use Rattle.words.proofs.Keeps.{formed_says, start_forms, step_forms}
 use Rattle.engine.proofs.Promised.{starts-unique, answers-unique}
 use Rattle.engine.proofs.Went.{runs-unique}
 use Rattle.engine.proofs.Joined.{next_fit, runs_end, runs_join, over_stays}
-use Rattle.engine.proofs.Calls.{calls_coherent}
+use Rattle.engine.proofs.Calls.{calls_are_coherent}
 use Rattle.engine.proofs.Marked.{marked_come}
 use Rattle.firmware.proofs.Laws.{fields_name}
 use Rattle.firmware.proofs.Unique.{
@@ -76,7 +76,7 @@ demand-2 = record {
 }
 
 pub demand-3 : Demand3
-demand-3 = record { calls_coherent = calls_coherent }
+demand-3 = record { calls_coherent = calls_are_coherent }
 
 pub marked-sequences : MarkedSequences
 marked-sequences = record { marked_come = marked_come }

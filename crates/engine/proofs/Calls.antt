@@ -77,9 +77,9 @@ follows (called e r k fits a) =
           (ap₂ (λ (c : Chassis) x. did c e x) (view-now f) (answered f a ∙ ap (λ (c : Chassis). (step c e).answer) (view-now f))) f.log-of;
     }
 
-pub calls_coherent : CallsAreCoherent
+pub calls_are_coherent : CallsAreCoherent
 unfolding now
-calls_coherent w log k =
+calls_are_coherent w log k =
     let f = follows k in
     let c : Coherent (record { now = view w; log = log })
     = subst Coherent (ap₂ (λ (x : Chassis) (l : List Did). record { now = x; log = l }) (sym (view-now f)) (sym f.log-of))
