@@ -16,6 +16,9 @@ FACT = re.compile(
     r"the two (?:types|sides) (?:first differ|differ|are)|expected type|does not follow from what it read|give a proof of that|no proof of|it is not proved that"
 )
 FORM = re.compile(r"^`walk`:|^note: |has no field|can be named from here|is not in scope|is no name")
+# A goal that no answer closes, and an answer to a goal that is not there: Rattle names a goal after its condition.
+OPEN = re.compile(r"it is not proved that")
+GONE = re.compile(r"^`[^`]+`: `goal\.[^`]+`: module .* can be named from here")
 # Two sides that the prover compared late, on the lines behind an error.
 LATE = re.compile(r"^  ≟ .*\n  does not hold", re.M)
 # Lemmas that fail since another did: one by one, or those of a file, three of them by name.
@@ -148,6 +151,11 @@ def facts(log):
     return [one for one in said(log) if FACT.search(one.words) and not FORM.search(one.words)]
 
 
+def gone(log):
+    """What it said of answers whose goals are gone."""
+    return [one for one in said(log) if GONE.search(one.words)]
+
+
 def declarations(text):
     """The lemmas of a file of proofs: each name, with all that stands from its signature to the next one that stands no deeper."""
     text = re.sub(r"(?m)--.*$", "", text)
@@ -181,7 +189,9 @@ def broken(log, crate):
         resting |= {(plain(lemma), on) for lemma, text in texts.items() for on in names_in(text) - {plain(lemma)}}
     while more := {lemma for lemma, on in resting if on in lemmas} - lemmas:
         lemmas |= more
-    failing = facts(log) + [one for one in said(log) if (found := REST.match(one.words)) and plain(found[1]) in lemmas]
+    lost = {of_function(crate, one) for one in gone(log)}
+    failing = [one for one in facts(log) if not OPEN.search(one.words) or of_function(crate, one) not in lost]
+    failing += [one for one in said(log) if (found := REST.match(one.words)) and plain(found[1]) in lemmas]
     return lemmas | {f"{name}_spec" for one in failing if (name := of_function(crate, one))}
 
 
@@ -204,12 +214,14 @@ def waits(log, function):
     return function in CALLS.findall(log)
 
 
-def fails(found, file, text, function):
-    """Whether one of these is of the function: in its own proof, or in its source. A method's proof stands in a folder of its type's."""
+def fails(found, file, text, function, gone=()):
+    """Whether one of these is of the function: in its own proof, or in its source. A method's proof stands in a folder of its type's. Where an
+    answer of the function's lost its goal, a goal that is open shows nothing: it may be the same one under another name."""
     module = file[len("src/"): -len(".rt")]
     above = "" if module in ("lib", "main") else f"{module}/"
     proof = re.compile(rf"proofs/{re.escape(above)}(?:[A-Z]\w*/)?{re.escape(function)}/")
+    lost = any(proof.match(one.file) for one in gone)
     return any(
-        proof.match(one.file) or (one.file == file and function_at(text, one.line) == function)
+        proof.match(one.file) or (one.file == file and function_at(text, one.line) == function and not (lost and OPEN.search(one.words)))
         for one in found
     )

@@ -21,3 +21,4 @@ pub mod Stays
 pub mod Start
 pub mod Last
 pub mod Demand
+pub mod Wired
