@@ -10,6 +10,8 @@ from typing import NamedTuple, Optional
 
 FUNCTION = re.compile(r'^(\s*)(?:pub(?:\(\w+\))? )?(?:extern "C" )?fn (\w+)')
 
+IMPL = re.compile(r"^impl(?:<[^>]*>)? (?:.* for )?(\w+)")
+
 # What the prover says where a fact fails, as against a proof that no longer has the code's form: no name that the proof uses is gone,
 # and what differs is not the code that a walk by hand goes through. A note on a proof, such as of its trial runs, is no failure of its own.
 FACT = re.compile(
@@ -131,6 +133,18 @@ def function_at(text, line):
     return next((name for name, first, last in function_spans(text) if first <= line <= last), None)
 
 
+def type_at(text, function):
+    """The type of whose methods a function is one, or none."""
+    lines = text.split("\n")
+    first = next((first for name, first, _ in function_spans(text) if name == function), 0)
+    for line in reversed(lines[: max(first - 1, 0)]):
+        if line == "}":
+            return None
+        if found := IMPL.match(line):
+            return found[1]
+    return None
+
+
 def line_of(text, part):
     """The line in which a part of a text begins, or 0 where the part is not there just once."""
     return text[: text.index(part)].count("\n") + 1 if text.count(part) == 1 else 0
@@ -215,11 +229,13 @@ def waits(log, function):
 
 
 def fails(found, file, text, function, gone=()):
-    """Whether one of these is of the function: in its own proof, or in its source. A method's proof stands in a folder of its type's. Where an
-    answer of the function's lost its goal, a goal that is open shows nothing: it may be the same one under another name."""
+    """Whether one of these is of the function: in its own proof, or in its source. A method's proof stands in a folder of its type's, below
+    that of the type's module. Where an answer of the function's lost its goal, a goal that is open shows nothing: it may be the same one
+    under another name."""
     module = file[len("src/"): -len(".rt")]
-    above = "" if module in ("lib", "main") else f"{module}/"
-    proof = re.compile(rf"proofs/{re.escape(above)}(?:[A-Z]\w*/)?{re.escape(function)}/")
+    kind = type_at(text, function)
+    above = rf"(?:\S+/)?{kind}\w*/" if kind else "" if module in ("lib", "main") else rf"{re.escape(module)}/"
+    proof = re.compile(rf"proofs/{above}{re.escape(function)}/")
     lost = any(proof.match(one.file) for one in gone)
     return any(
         proof.match(one.file) or (one.file == file and function_at(text, one.line) == function and not (lost and OPEN.search(one.words)))

@@ -52,12 +52,12 @@ fn told<const N: usize>(breaks: bool) -> (bool, usize, usize, [u8; N]) {
         to: Cursor::new([0u8; N]),
     };
     let mut journal = [0u8; JOURNAL_ROOM];
-    let (whole, read, taken) = match replay(&mut from, &mut to, &mut journal) {
-        Replayed::Whole { read, taken } => (true, read, taken),
-        Replayed::NotWritten { read, taken } => (false, read, taken),
-        Replayed::NotRead => (false, 0, 0),
+    let (whole, moved) = match replay(&mut from, &mut to, &mut journal) {
+        Ok(moved) => (true, moved),
+        Err(ReplayError::NotWritten(moved)) => (false, moved),
+        Err(ReplayError::NotRead) => (false, Moved { read: 0, taken: 0 }),
     };
-    (whole, read, taken, to.to.into_inner())
+    (whole, moved.read, moved.taken, to.to.into_inner())
 }
 
 #[test]

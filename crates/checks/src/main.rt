@@ -1,33 +1,41 @@
 // What the paper says is run, on the engine that is linked: the script on stdin, line by line; what it tells is held to the file stdout.
 #![tactic(auto)]
 
+ghost use Rattle.std.specs.Prelude.{◌≤◌, length};
+
 mod image;
 mod lines;
 mod named;
 mod play;
 mod report;
 
-use crate::image::{KEPT, fresh};
-use crate::lines::line_end;
-use crate::play::play;
+use crate::play::Checks;
+use std::io::Read;
 
-// Each line of the script in a row.
-fn main() {
-    let mut script = io::large_buffer();
-    let count = io::read_full(0, &mut script);
-    run(&script[..count]);
+// How many bytes of a script are played; those behind them are not read.
+const SCRIPT_ROOM: usize = 65536;
+
+// Each line of the script in a row. What cannot be told of a line is not told, and the next line is played all the same.
+fn main(rt: HostRuntime) {
+    let mut script = [0u8; SCRIPT_ROOM];
+    let length = read_script(&mut rt.stdin(), &mut script);
+    let mut checks = Checks::new();
+    for line in script[..length].split(|byte| *byte == b'\n') {
+        let _ = checks.play(&rt, line);
+    }
 }
 
-// The lines of a script: the state that events change, the words that are expected of it, and how many events were done without a word.
-fn run(script: &[u8]) {
-    let mut state = fresh(0, 0, 0);
-    let mut expected = fresh(0, 0, 0);
-    let mut kept = [0u64; KEPT];
-    let mut done: u64 = 0;
-    let mut at = 0;
-    while at < script.len() {
-        let end = line_end(script, at);
-        done = play(&script[at..end], &mut state, &mut expected, &mut kept, done);
-        at = end + 1;
+// Reads until the room is full, the input ends or a read fails: how many bytes there are. Of the library's methods `read_exact` does not say
+// how many, and `read_to_end` has them on the heap.
+fn read_script(from: &mut impl Read, room: &mut [u8]) -> usize
+    ensures { result ≤ length room.new }
+{
+    let mut read = 0;
+    while read < room.len() {
+        match from.read(&mut room[read..]) {
+            Ok(count) if count > 0 => read += count,
+            _ => break,
+        }
     }
+    read
 }

@@ -1,23 +1,29 @@
 // The event that a line's numbers say: its record's tag and what the record has, in the paper's order.
-use crate::lines::{NUMBERS, byte, value};
+use crate::lines::byte;
 use engine::events;
-use journal::tags::{ASK, COPY, DELIVER, DROP, LOAD, ORDER, STORE};
+use journal::tags::Tag;
 use rules::{Answer, Edition, Event};
 use words::layout::WORDS;
 
+// How many numbers an event has at most, its tag among them.
+pub(crate) const FIELDS: usize = 5;
+
 // Its answer, by the function of its name.
-pub(crate) fn named(state: &mut [u64; WORDS], n: &[u64; NUMBERS]) -> Answer {
-    let first = byte(n[1]);
-    let second = byte(n[2]);
-    match byte(n[0]) {
-        LOAD => events::load(state, first, second),
-        STORE => events::store(state, first, second, value(n[3])),
-        ASK => events::ask(state, first, second, byte(n[3]), byte(n[4])),
-        DROP => events::drop(state, first, second),
-        ORDER => events::order(state),
-        DELIVER => events::deliver(state, first),
-        COPY => events::copy(state, first),
-        _ => events::rejoin(state, first),
+pub(crate) fn named(state: &mut [u64; WORDS], event: Event) -> Answer {
+    match event {
+        Event::Load { card, block } => events::load(state, card, block),
+        Event::Store { card, block, value } => events::store(state, card, block, value),
+        Event::Ask {
+            card,
+            block,
+            kind,
+            mask,
+        } => events::ask(state, card, block, kind, mask),
+        Event::Drop { card, block } => events::drop(state, card, block),
+        Event::Order => events::order(state),
+        Event::Deliver { position } => events::deliver(state, position),
+        Event::Copy { position } => events::copy(state, position),
+        Event::Rejoin { card } => events::rejoin(state, card),
     }
 }
 
@@ -29,33 +35,53 @@ pub(crate) fn edition(n: u64) -> Edition {
     }
 }
 
-// The event itself.
-pub(crate) fn event_of(n: &[u64; NUMBERS]) -> Event {
-    let first = byte(n[1]);
-    let second = byte(n[2]);
-    match byte(n[0]) {
-        LOAD => Event::Load {
+// The event itself: a Rejoin, where no other event has the tag.
+pub(crate) fn event_of(n: [u64; FIELDS]) -> Event {
+    let [tag, first, second, third, fourth] = n.map(byte);
+    match Tag::try_from(tag) {
+        Ok(Tag::Load) => Event::Load {
             card: first,
             block: second,
         },
-        STORE => Event::Store {
+        Ok(Tag::Store) => Event::Store {
             card: first,
             block: second,
-            value: value(n[3]),
+            value: (n[3] & 0xffff_ffff) as u32,
         },
-        ASK => Event::Ask {
+        Ok(Tag::Ask) => Event::Ask {
             card: first,
             block: second,
-            kind: byte(n[3]),
-            mask: byte(n[4]),
+            kind: third,
+            mask: fourth,
         },
-        DROP => Event::Drop {
+        Ok(Tag::Drop) => Event::Drop {
             card: first,
             block: second,
         },
-        ORDER => Event::Order,
-        DELIVER => Event::Deliver { position: first },
-        COPY => Event::Copy { position: first },
-        _ => Event::Rejoin { card: first },
+        Ok(Tag::Order) => Event::Order,
+        Ok(Tag::Deliver) => Event::Deliver { position: first },
+        Ok(Tag::Copy) => Event::Copy { position: first },
+        Ok(Tag::Rejoin | Tag::Opening) | Err(_) => Event::Rejoin { card: first },
     }
 }
+
+// Each event by card 0, of block 0, of value or kind 1, at position 0, in the order of their tags.
+pub(crate) const EACH: [Event; 8] = [
+    Event::Load { card: 0, block: 0 },
+    Event::Store {
+        card: 0,
+        block: 0,
+        value: 1,
+    },
+    Event::Ask {
+        card: 0,
+        block: 0,
+        kind: 1,
+        mask: 0,
+    },
+    Event::Drop { card: 0, block: 0 },
+    Event::Order,
+    Event::Deliver { position: 0 },
+    Event::Copy { position: 0 },
+    Event::Rejoin { card: 0 },
+];

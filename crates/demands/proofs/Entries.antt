@@ -26,9 +26,9 @@ use Rattle.engine.proofs.looks.cell.Met as looks-cell
 use Rattle.engine.proofs.looks.home.Met as looks-home
 use Rattle.journal.proofs.reading.read.Met as reading-read
 use Rattle.journal.proofs.reading.place_after.Met as reading-place-after
-use Rattle.journal.proofs.reader.new.Met as reader_new
-use Rattle.journal.proofs.reader.next.Met as reader_next
-use Rattle.journal.proofs.reader.after.Met as reader_after
+use Rattle.journal.proofs.reader.Reader.new.Met as reader_new
+use Rattle.journal.proofs.reader.Reader.next.Met as reader_next
+use Rattle.journal.proofs.reader.Reader.after.Met as reader_after
 use Rattle.journal.proofs.reader.read_on.Met as reader_read_on
 use Rattle.journal.proofs.writing.write.Met as writing-write
 use Rattle.journal.proofs.lines.put_line.Met as lines-put-line

@@ -1,13 +1,15 @@
 -- Every refusal has a number of the list, and in C it stands in the upper half of what is answered.
+use Rattle.std.specs.Prelude.{Result, Err, None, Ok, Some}
 use Prim.Native.Nat.{ℕ, ◌*◌, ◌/◌}
 use native.Mathlib.Omega.{arith}
-use mathlib.Core.Bool.{true}
-use mathlib.Core.List.{List}
+use mathlib.Core.Bool.{true, true≢false}
+use mathlib.Core.List.{List, [], ◌∷◌, ◌++◌}
 use mathlib.Core.Path.{◌≡◌, refl, sym, ap, subst, ◌∙◌}
+use lib.Dec.{eqb}
 use Rattle.rules.specs.Tests.{one_of}
+use Rattle.rules.proofs.Tests.{test}
 use Rattle.rules.specs.Answers.{refusal_no, refusal_of}
-use Rattle.rules.specs.declared.Answer.{Answer}
-use Rattle.rules.specs.declared.Answer.TheVariants.{Done, Refused}
+use Rattle.rules.specs.Answers.{Answer}
 use Rattle.rules.specs.declared.Refusal.{Refusal}
 use Rattle.rules.specs.declared.Refusal.TheVariants.{
   NoSuchCard,
@@ -26,24 +28,19 @@ use Rattle.rules.specs.declared.Refusal.TheVariants.{
   NoSuchSize,
   IllFormed,
 }
-use Rattle.journal.specs.Reading.{damage_no, read_at}
-use Rattle.journal.specs.Writing.{written_no}
+use Rattle.journal.specs.Reading.{Found, damage_no, read_at}
+use Rattle.journal.specs.Writing.{Written, written_no}
 use Rattle.journal.specs.declared.Damage.{Damage}
 use Rattle.journal.specs.declared.Damage.TheVariants.{CutShort, UnknownTag, WrongLength, WrongOpening}
-use Rattle.journal.specs.declared.Found.{Found}
-use Rattle.journal.specs.declared.Found.TheVariants.{Whole, End, Damaged}
-use Rattle.journal.specs.declared.Written.{Written}
-use Rattle.journal.specs.declared.Written.TheVariants.{UpTo, NoRoom}
+use Rattle.journal.specs.declared.Record.{Record}
 use Rattle.engine.specs.Looking.{looks}
 use Rattle.engine.specs.declared.Seen.{Seen}
 use Rattle.engine.specs.declared.run.Ran.{Ran}
 use Rattle.firmware.specs.Halves.{half}
 use Rattle.firmware.specs.Journals.{found_number, ran_number, Writes}
 use Rattle.firmware.specs.Looks.{seen_number}
-use Rattle.firmware.specs.declared.Named.{Named}
-use Rattle.firmware.specs.declared.Named.TheVariants.{One, No}
 use Rattle.firmware.proofs.Unique.{halves-tell, values-fit}
-use Rattle.demands.specs.Demands.{engine_numbers, reading_numbers, Listed, ByNumber}
+use Rattle.demands.specs.Demands.{engine_numbers, reading_numbers, writing_numbers, Listed, ByNumber}
 
 refusal : (x : Refusal) → one_of engine_numbers (refusal_no x) ≡ true
 unfolding one_of
@@ -70,42 +67,33 @@ damage UnknownTag = refl
 damage WrongLength = refl
 damage WrongOpening = refl
 
--- as one of all lists
+-- a number of one list is one of those that are put together of it and others
+
+one-left : (l m : List ℕ) (n : ℕ) → one_of l n ≡ true → one_of (l ++ m) n ≡ true
+unfolding one_of
+one-left [] m n h = absurd (true≢false (sym h))
+one-left (x ∷ l) m n h = test (eqb x n) (λ e. rw e) (λ e. rw e (one-left l m n (rw e at h)))
+
+one-right : (l m : List ℕ) (n : ℕ) → one_of m n ≡ true → one_of (l ++ m) n ≡ true
+unfolding one_of
+one-right [] m n h = h
+one-right (x ∷ l) m n h = test (eqb x n) (λ e. rw e) (λ e. rw e (one-right l m n h))
 
 refusal-listed : (x : Refusal) → Listed (refusal_no x)
-unfolding one_of
-refusal-listed NoSuchCard = refl
-refusal-listed NoSuchBlock = refl
-refusal-listed NoRight = refl
-refusal-listed AskNotAllowed = refl
-refusal-listed NoSuchKind = refl
-refusal-listed StrangerInMask = refl
-refusal-listed LineFull = refl
-refusal-listed LineEmpty = refl
-refusal-listed BlockHeld = refl
-refusal-listed PoolFull = refl
-refusal-listed NoSuchMessage = refl
-refusal-listed NumbersSpent = refl
-refusal-listed Impossible = refl
-refusal-listed NoSuchSize = refl
-refusal-listed IllFormed = refl
+refusal-listed x = one-right (0 ∷ []) _ _ (one-left engine_numbers (reading_numbers ++ writing_numbers) _ (refusal x))
+
+damage-listed : (d : Damage) → Listed (damage_no d)
+damage-listed d = one-right (0 ∷ engine_numbers) _ _ (one-left reading_numbers writing_numbers _ (damage d))
 
 answer : (r : Answer) → Listed (refusal_of r)
 unfolding one_of
-answer (Done v) = refl
-answer (Refused x) = refusal-listed x
-
-damage-listed : (d : Damage) → Listed (damage_no d)
-unfolding one_of
-damage-listed CutShort = refl
-damage-listed UnknownTag = refl
-damage-listed WrongLength = refl
-damage-listed WrongOpening = refl
+answer (Ok v) = refl
+answer (Err x) = refusal-listed x
 
 written : (r : Written) → Listed (written_no r)
 unfolding one_of
-written (UpTo n) = refl
-written NoRoom = refl
+written (Ok n) = refl
+written (Err e) = refl
 
 -- the upper half
 
@@ -117,28 +105,24 @@ upper n x e h = subst Listed (sym (ap (λ m. m / half) e ∙ whole-half x)) h
 
 found : (f : Found) → Listed (found_number f / half)
 unfolding one_of
-found (Whole one next) = refl
-found End = refl
-found (Damaged d) = upper _ (damage_no d) refl (damage-listed d)
+found (Ok (Some (one, next))) = refl
+found (Ok None) = refl
+found (Err d) = upper _ (damage_no d) refl (damage-listed d)
 
-ran : (r : Ran) → Listed (ran_number r / half)
+ran : (r : Result Ran Refusal) → Listed (ran_number r / half)
 unfolding one_of
-ran (Ran.More q n) = refl
-ran (Ran.Over q n) = refl
-ran (Ran.Refused x) = upper _ (refusal_no x) refl (refusal-listed x)
+ran (Ok (Ran.More q n)) = refl
+ran (Ok (Ran.Over q n)) = refl
+ran (Err x) = upper _ (refusal_no x) refl (refusal-listed x)
 
-seen : (s : Seen) → Listed (seen_number s / half)
+seen : (s : Result Seen Refusal) → Listed (seen_number s / half)
 unfolding one_of
-seen (Seen.Counts n) = refl
-seen (Seen.Message m) = refl
-seen (Seen.Request r) = refl
-seen (Seen.Cell x) = refl
-seen (Seen.Home h) = refl
-seen (Seen.Refused x) = upper _ (refusal_no x) refl (refusal-listed x)
+seen (Ok s) = refl
+seen (Err x) = upper _ (refusal_no x) refl (refusal-listed x)
 
-writes : (buffer : List ℕ) (place : ℕ) (x : Named) (n : ℕ) (buffer' : List ℕ) (place' : ℕ) → Writes buffer place x n buffer' place' → Listed (n / half)
-writes buffer place (One one) n buffer' place' h = upper n (written_no h.0) h.2 (written h.0)
-writes buffer place (No d) n buffer' place' h = upper n (damage_no d) h.0 (damage-listed d)
+writes : (buffer : List ℕ) (place : ℕ) (x : Result Record Damage) (n : ℕ) (buffer' : List ℕ) (place' : ℕ) → Writes buffer place x n buffer' place' → Listed (n / half)
+writes buffer place (Ok one) n buffer' place' h = upper n (written_no h.0) h.2 (written h.0)
+writes buffer place (Err d) n buffer' place' h = upper n (damage_no d) h.0 (damage-listed d)
 
 pub by_number : ByNumber
 unfolding one_of

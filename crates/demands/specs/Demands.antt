@@ -5,9 +5,10 @@
 -- Replays, and its own Reads and Writes (bench/specs). All else is claimed of whatever keeps these promises. What they say is in the rules
 -- (rules/specs), the words of a chassis (words/specs) and the records (journal/specs), each in the paper's words. EventFits and Bytes say of
 -- numbers what the kinds u32 and u8 say of the arguments.
-use Rattle.std.specs.Prelude.{ℕ, ◌+◌, ◌/◌, ◌%◌, true, false, cond, List, [], ◌∷◌, ◌++◌, ◌≡◌, ◌≢◌, length}
+use Rattle.std.specs.Prelude.{Result, Err, Ok, ℕ, ◌+◌, ◌/◌, ◌%◌, true, false, cond, List, [], ◌∷◌, ◌++◌, ◌≡◌, ◌≢◌, length}
 use Rattle.rules.specs.Tests.{one_of}
 use Rattle.rules.specs.Table.{
+  leads,
   loads,
   stores,
   asks_gets,
@@ -34,29 +35,25 @@ use Rattle.rules.specs.Formed.{sizes}
 use Rattle.rules.specs.Events.{reasons, EventFits, step, start}
 use Rattle.rules.specs.Claims.{OneAnswer}
 use Rattle.rules.specs.declared.Edition.{Edition}
-use Rattle.rules.specs.declared.Answer.{Answer}
-use Rattle.rules.specs.declared.Answer.TheVariants.{Done, Refused}
+use Rattle.rules.specs.Answers.{Answer}
 use Rattle.rules.specs.declared.Refusal.{Refusal}
 use Rattle.rules.specs.declared.Refusal.TheVariants.{NoSuchSize, IllFormed}
 use Rattle.rules.specs.declared.Event.{Event}
 use Rattle.rules.specs.declared.Event.TheVariants.{Load, Store, Drop, Ask, Order, Deliver, Copy, Rejoin}
 use Rattle.journal.specs.Records.{bytes_of}
 use Rattle.journal.specs.Reading.{damage_no, place_after, read_at}
-use Rattle.journal.specs.Writing.{written_no, fits, Puts, PutsUnique}
+use Rattle.journal.specs.Writing.{Written, no_room, written_no, fits, Puts, PutsUnique}
 use Rattle.journal.specs.Lines.{text_line}
 use Rattle.journal.specs.Claims.{ReadsBack, ReadsOnly, OnlyOne, PaperHolds}
 use Rattle.journal.specs.declared.Damage.{Damage}
-use Rattle.journal.specs.declared.Written.{Written}
-use Rattle.journal.specs.declared.Written.TheVariants.{UpTo, NoRoom}
+use Rattle.journal.specs.declared.Record.{Record}
 use Rattle.words.specs.Words.{words, view, formed}
 use Rattle.words.specs.Claims.{ViewWords, AllWords, FormedSays, StartForms, StepForms}
 use Rattle.engine.specs.Promise.{Starts, Answers, StartsUnique, AnswersUnique}
 use Rattle.engine.specs.Running.{Runs, RunsUnique, NextFit, RunsEnd, RunsJoin, OverStays}
 use Rattle.engine.specs.Calls.{CallsAreCoherent, MarkedCome}
 use Rattle.engine.specs.Looking.{Look, counts, message, request, cell, home, look_reasons, shown, looks}
-use Rattle.engine.specs.declared.Seen.{Seen}
 use Rattle.engine.specs.declared.run.Reached.{Reached}
-use Rattle.engine.specs.declared.run.Ran.TheVariants as Ran
 use Rattle.firmware.specs.Halves.{half, Says}
 use Rattle.firmware.specs.Fields.{named}
 use Rattle.firmware.specs.Journals.{Reads, Writes, RunSays}
@@ -64,7 +61,6 @@ use Rattle.firmware.specs.Looks.{Shows}
 use Rattle.firmware.specs.Sizes.{header_version}
 use Rattle.firmware.specs.Editions.{start_byte, StartsByte}
 use Rattle.firmware.specs.Claims.{ByteStarts, FieldsName, StartSaysUnique, EventSaysUnique, ReadsUnique, WritesUnique, RunSaysUnique, ShowsUnique}
-use Rattle.firmware.specs.declared.Named.{Named}
 use Rattle.bench.specs.Replaying.{Replays, Reads as ReadsFrom, Writes as WritesTo, ReplaysUnique}
 use Rattle.engine.specs.contracts.start.start as start-start
 use Rattle.engine.proofs.start.start.Symbol as start-start-code
@@ -104,12 +100,12 @@ use Rattle.journal.specs.contracts.reading.read as reading-read
 use Rattle.journal.proofs.reading.read.Symbol as reading-read-code
 use Rattle.journal.specs.contracts.reading.place_after as reading-place-after
 use Rattle.journal.proofs.reading.place_after.Symbol as reading-place-after-code
-use Rattle.journal.specs.contracts.reader.new as reader_new
-use Rattle.journal.proofs.reader.new.Symbol as reader_new-code
-use Rattle.journal.specs.contracts.reader.next as reader_next
-use Rattle.journal.proofs.reader.next.Symbol as reader_next-code
-use Rattle.journal.specs.contracts.reader.after as reader_after
-use Rattle.journal.proofs.reader.after.Symbol as reader_after-code
+use Rattle.journal.specs.contracts.reader.Reader.new as reader_new
+use Rattle.journal.proofs.reader.Reader.new.Symbol as reader_new-code
+use Rattle.journal.specs.contracts.reader.Reader.next as reader_next
+use Rattle.journal.proofs.reader.Reader.next.Symbol as reader_next-code
+use Rattle.journal.specs.contracts.reader.Reader.after as reader_after
+use Rattle.journal.proofs.reader.Reader.after.Symbol as reader_after-code
 use Rattle.journal.specs.contracts.reader.read_on as reader_read_on
 use Rattle.journal.proofs.reader.read_on.Symbol as reader_read_on-code
 use Rattle.journal.specs.contracts.writing.write as writing-write
@@ -262,13 +258,13 @@ pub record EveryEntry : Type 2 where
   pub c_version : Keeps coherence-version.ended coherence-version-code.name coherence-version-code.code (λ κs a n end. n ≡ header_version)
   -- a replay from any reader to any writer, which decide how much is read and taken; of their calls the contracts of Read and Write are assumed
   pub replay : KeepsOver (λ s. bench-replay.ended s.Reader s.Writer s.reader s.read_by s.writer s.written_by) bench-replay-code.name bench-replay-code.code (λ s κs. (κs.1.1.1.0 ⊑ s.Reader.lives) × (κs.1.1.1.1.0 ⊑ s.Writer.lives)) (λ s κs a r end. (Replays end.1.1.0.now r) × (ReadsFrom (s.reader.remaining a.0.now) (s.reader.remaining end.0.now) end.1.1.0.now r) × (WritesTo (s.writer.contents a.1.0.now) (s.writer.contents end.1.0.now) end.1.1.0.now r))
-  -- the columns of the card state table
+  -- the columns of the card state table: where a state leads, or nowhere
   pub loads : Keeps table-loads.ended table-loads-code.name table-loads-code.code (λ κs a r end. r ≡ loads a.0)
   pub stores : Keeps table-stores.ended table-stores-code.name table-stores-code.code (λ κs a r end. r ≡ stores a.0)
-  pub asks_gets : Keeps table-asks-gets.ended table-asks-gets-code.name table-asks-gets-code.code (λ κs a r end. r ≡ asks_gets a.0)
-  pub asks_getx : Keeps table-asks-getx.ended table-asks-getx-code.name table-asks-getx-code.code (λ κs a r end. r ≡ asks_getx a.0)
-  pub asks_putx : Keeps table-asks-putx.ended table-asks-putx-code.name table-asks-putx-code.code (λ κs a r end. r ≡ asks_putx a.0)
-  pub asked : Keeps table-asked.ended table-asked-code.name table-asked-code.code (λ κs a r end. r ≡ asked a.0 a.1.0)
+  pub asks_gets : Keeps table-asks-gets.ended table-asks-gets-code.name table-asks-gets-code.code (λ κs a r end. r ≡ leads (asks_gets a.0))
+  pub asks_getx : Keeps table-asks-getx.ended table-asks-getx-code.name table-asks-getx-code.code (λ κs a r end. r ≡ leads (asks_getx a.0))
+  pub asks_putx : Keeps table-asks-putx.ended table-asks-putx-code.name table-asks-putx-code.code (λ κs a r end. r ≡ leads (asks_putx a.0))
+  pub asked : Keeps table-asked.ended table-asked-code.name table-asked-code.code (λ κs a r end. r ≡ leads (asked a.0 a.1.0))
   pub sees_gets : Keeps table-sees-gets.ended table-sees-gets-code.name table-sees-gets-code.code (λ κs a r end. r ≡ sees_gets a.0 a.1.0)
   pub sees_getx : Keeps table-sees-getx.ended table-sees-getx-code.name table-sees-getx-code.code (λ κs a r end. r ≡ sees_getx a.0)
   pub drops : Keeps table-drops.ended table-drops-code.name table-drops-code.code (λ κs a r end. r ≡ drops a.0)
@@ -300,45 +296,45 @@ Listed n = one_of (0 ∷ engine_numbers ++ reading_numbers ++ writing_numbers) n
 pub record ByNumber : Type 0 where
   pub refusal : (x : Refusal) → one_of engine_numbers (refusal_no x) ≡ true
   pub damage : (d : Damage) → one_of reading_numbers (damage_no d) ≡ true
-  pub no_room : one_of writing_numbers (written_no NoRoom) ≡ true
+  pub no_room : one_of writing_numbers (written_no (Err no_room)) ≡ true
   pub c_start : (e cards blocks n : ℕ) (w' : List ℕ) → Says (λ r. StartsByte e cards blocks r w') n → Listed (n / half)
   pub c_event : (w : List ℕ) (e : Event) (n : ℕ) (w' : List ℕ) → Says (λ r. Answers w e r w') n → Listed (n / half)
   pub c_read : (journal : List ℕ) (place : ℕ) (l : List ℕ) (n place' : ℕ) (l' : List ℕ) → Reads journal place l n place' l' → Listed (n / half)
-  pub c_write : (buffer : List ℕ) (place : ℕ) (x : Named) (n : ℕ) (buffer' : List ℕ) (place' : ℕ) → Writes buffer place x n buffer' place' → Listed (n / half)
+  pub c_write : (buffer : List ℕ) (place : ℕ) (x : Result Record Damage) (n : ℕ) (buffer' : List ℕ) (place' : ℕ) → Writes buffer place x n buffer' place' → Listed (n / half)
   pub c_run : (w journal l t : List ℕ) (n : ℕ) (w' l' t' : List ℕ) → RunSays w journal l t n w' l' t' → Listed (n / half)
   pub c_look : (w : List ℕ) (q : Look) (l : List ℕ) (n : ℕ) (l' : List ℕ) → Shows w q l n l' → Listed (n / half)
 
 -- the first reason of the event's list that holds, and no other, refuses it; 15 comes before all, 14 at Start, 24 at writing. For reading,
 -- read_at is the list of 20 to 23 itself; a run refuses with 15 where what it is handed is not `fit`
 pub record ExactlyWhen : Type 0 where
-  pub ill_formed : (w : List ℕ) (e : Event) (r : Answer) (w' : List ℕ) → Answers w e r w' → formed w ≡ false → r ≡ Refused IllFormed
+  pub ill_formed : (w : List ℕ) (e : Event) (r : Answer) (w' : List ℕ) → Answers w e r w' → formed w ≡ false → r ≡ Err IllFormed
   pub refused : (w : List ℕ) (e : Event) (r : Answer) (w' : List ℕ) → Answers w e r w' → formed w ≡ true
-      → (x : Refusal) → FirstHolds (reasons (view w) e) x → r ≡ Refused x
+      → (x : Refusal) → FirstHolds (reasons (view w) e) x → r ≡ Err x
   pub accepted : (w : List ℕ) (e : Event) (r : Answer) (w' : List ℕ) → Answers w e r w' → formed w ≡ true
       → NoneHolds (reasons (view w) e) → refusal_of r ≡ 0
-  pub started : (e : Edition) (cards blocks : ℕ) (r : Answer) (w' : List ℕ) → Starts e cards blocks r w' → r ≡ cond (sizes cards blocks) (Done 0) (Refused NoSuchSize)
+  pub started : (e : Edition) (cards blocks : ℕ) (r : Answer) (w' : List ℕ) → Starts e cards blocks r w' → r ≡ cond (sizes cards blocks) (Ok 0) (Err NoSuchSize)
   pub c_started : (i : Edition) (cards blocks : ℕ) (r : Answer) (w' : List ℕ) → StartsByte (edition_no i) cards blocks r w'
-      → r ≡ cond (sizes cards blocks) (Done 0) (Refused NoSuchSize)
+      → r ≡ cond (sizes cards blocks) (Ok 0) (Err NoSuchSize)
   pub c_no_edition : (e cards blocks : ℕ) (r : Answer) (w' : List ℕ) → StartsByte e cards blocks r w' → ((i : Edition) → e ≢ edition_no i)
-      → r ≡ Refused NoSuchSize
+      → r ≡ Err NoSuchSize
   pub written : (buffer : List ℕ) (at : ℕ) (bytes : List ℕ) (r : Written) (buffer' : List ℕ) → Puts buffer at bytes r buffer'
-      → r ≡ cond (fits buffer at bytes) (UpTo (at + length bytes)) NoRoom
-  pub look_ill_formed : (w : List ℕ) (q : Look) → formed w ≡ false → looks w q ≡ Seen.Refused IllFormed
-  pub look_refused : (w : List ℕ) (q : Look) → formed w ≡ true → (x : Refusal) → FirstHolds (look_reasons (view w) q) x → looks w q ≡ Seen.Refused x
-  pub look_shown : (w : List ℕ) (q : Look) → formed w ≡ true → NoneHolds (look_reasons (view w) q) → looks w q ≡ shown (view w) q
+      → r ≡ cond (fits buffer at bytes) (Ok (at + length bytes)) (Err no_room)
+  pub look_ill_formed : (w : List ℕ) (q : Look) → formed w ≡ false → looks w q ≡ Err IllFormed
+  pub look_refused : (w : List ℕ) (q : Look) → formed w ≡ true → (x : Refusal) → FirstHolds (look_reasons (view w) q) x → looks w q ≡ Err x
+  pub look_shown : (w : List ℕ) (q : Look) → formed w ≡ true → NoneHolds (look_reasons (view w) q) → looks w q ≡ Ok (shown (view w) q)
 
 -- what is refused leaves all that is lent as it was; Start alone makes the words of no chassis then, and so does a run that is to start
 pub record RefusedLeaves : Type 0 where
-  pub event : (w : List ℕ) (e : Event) (x : Refusal) (w' : List ℕ) → Answers w e (Refused x) w' → w' ≡ w
-  pub bytes : (buffer : List ℕ) (at : ℕ) (bytes buffer' : List ℕ) → Puts buffer at bytes NoRoom buffer' → buffer' ≡ buffer
+  pub event : (w : List ℕ) (e : Event) (x : Refusal) (w' : List ℕ) → Answers w e (Err x) w' → w' ≡ w
+  pub bytes : (buffer : List ℕ) (at : ℕ) (bytes buffer' : List ℕ) → Puts buffer at bytes (Err no_room) buffer' → buffer' ≡ buffer
   pub run : (w journal : List ℕ) (s : Reached) (t : List ℕ) (x : Refusal) (w' t' : List ℕ)
-      → Runs w journal s t (Ran.Refused x) w' t' → (w' ≡ w) × (t' ≡ t)
-  pub start : (e : Edition) (cards blocks : ℕ) (x : Refusal) (w' : List ℕ) → Starts e cards blocks (Refused x) w' → w' ≡ words no_chassis
-  pub c_start : (e cards blocks : ℕ) (x : Refusal) (w' : List ℕ) → StartsByte e cards blocks (Refused x) w' → w' ≡ words no_chassis
+      → Runs w journal s t (Err x) w' t' → (w' ≡ w) × (t' ≡ t)
+  pub start : (e : Edition) (cards blocks : ℕ) (x : Refusal) (w' : List ℕ) → Starts e cards blocks (Err x) w' → w' ≡ words no_chassis
+  pub c_start : (e cards blocks : ℕ) (x : Refusal) (w' : List ℕ) → StartsByte e cards blocks (Err x) w' → w' ≡ words no_chassis
   pub c_event : (w : List ℕ) (e : Event) (n : ℕ) (w' : List ℕ) → Says (λ r. Answers w e r w') n → n / half ≢ 0 → w' ≡ w
   pub c_read : (journal : List ℕ) (place : ℕ) (l : List ℕ) (n place' : ℕ) (l' : List ℕ)
       → Reads journal place l n place' l' → n / half ≢ 0 → (place' ≡ place) × (l' ≡ l)
-  pub c_write : (buffer : List ℕ) (place : ℕ) (x : Named) (n : ℕ) (buffer' : List ℕ) (place' : ℕ)
+  pub c_write : (buffer : List ℕ) (place : ℕ) (x : Result Record Damage) (n : ℕ) (buffer' : List ℕ) (place' : ℕ)
       → Writes buffer place x n buffer' place' → n / half ≢ 0 → (buffer' ≡ buffer) × (place' ≡ place)
   pub c_run : (w journal l t : List ℕ) (n : ℕ) (w' l' t' : List ℕ)
       → RunSays w journal l t n w' l' t' → n / half ≢ 0 → (w' ≡ w) × (l' ≡ l) × (t' ≡ t)

@@ -1,4 +1,5 @@
 -- Calls in a row do what the rules' run does, so demand 3 holds of them.
+use Rattle.std.specs.Prelude.{Err, Ok}
 use Prim.Native.Nat.{ℕ}
 use mathlib.Core.Bool.{true, cond}
 use mathlib.Core.List.{List, [], ◌∷◌}
@@ -7,8 +8,7 @@ use Rattle.rules.specs.Chassis.{Chassis}
 use Rattle.rules.specs.Events.{step, start}
 use Rattle.rules.specs.History.{Did, did, run}
 use Rattle.rules.specs.Demand.{Coherent}
-use Rattle.rules.specs.declared.Answer.{Answer}
-use Rattle.rules.specs.declared.Answer.TheVariants.{Done, Refused}
+use Rattle.rules.specs.Answers.{Answer}
 use Rattle.rules.specs.declared.Refusal.TheVariants.{IllFormed}
 use Rattle.rules.specs.declared.Event.{Event}
 use Rattle.rules.proofs.Demand.{rules-coherent}
@@ -24,7 +24,7 @@ record Follows (w : List ℕ) (log : List Did) : Type 0 where
   cards : ℕ
   blocks : ℕ
   value : ℕ
-  accepted : (start edition cards blocks).answer ≡ Done value
+  accepted : (start edition cards blocks).answer ≡ Ok value
   events : List Event
   says : Sayable (run (start edition cards blocks).after events).now
   words_of : w ≡ words (run (start edition cards blocks).after events).now
@@ -43,7 +43,7 @@ module _ {w : List ℕ} {log : List Did} (f : Follows w log) where
 
   -- so the promise of an event is what the rules' step gives
   answered : {e : Event} {r : Answer} {w' : List ℕ} → Answers w e r w' → r ≡ (step (view w) e).answer
-  answered {e} a = a.answer ∙ ap (λ t. cond t (step (view w) e).answer (Refused IllFormed)) is-formed
+  answered {e} a = a.answer ∙ ap (λ t. cond t (step (view w) e).answer (Err IllFormed)) is-formed
 
   left : {e : Event} {r : Answer} {w' : List ℕ} → Answers w e r w' → w' ≡ words (step now e).after
   left {e} a = a.after ∙ ap (λ t. cond t (words (step (view w) e).after) w) is-formed

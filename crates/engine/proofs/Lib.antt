@@ -2,6 +2,7 @@
 pub mod Promised
 pub mod Rights
 pub mod Asked
+pub mod Heads
 pub mod Judging
 pub mod Ordered
 pub mod Told
@@ -10,3 +11,4 @@ pub mod Joined
 pub mod Calls
 pub mod Marked
 pub mod Looked
+pub mod Ranges

@@ -1,4 +1,5 @@
 -- What a look on words shows is what the chassis has that they say.
+use Rattle.std.specs.Prelude.{Err, Ok, Result}
 use Prim.Native.Nat.{ℕ, ◌≤◌, ◌<◌}
 use mathlib.Core.Bool.{true, false}
 use mathlib.Core.List.{List}
@@ -22,11 +23,9 @@ use Rattle.words.proofs.Does.{sizes}
 use Rattle.engine.specs.Inner.Sought.{sought}
 use Rattle.engine.specs.Looking.{Look, counts, message, request, cell, home, unless, looks}
 use Rattle.engine.specs.declared.Seen.{Seen}
-use Rattle.engine.specs.declared.cells.Sought.{Sought}
-use Rattle.engine.specs.declared.cells.Sought.TheVariants.{There, Missing}
 
 module _ (w : List ℕ) where
-  pub not-formed : (q : Look) → formed w ≡ false → Seen.Refused IllFormed ≡ looks w q
+  pub not-formed : (q : Look) → formed w ≡ false → Err IllFormed ≡ looks w q
   unfolding looks
   not-formed q f = rw f
 
@@ -49,31 +48,31 @@ module _ (w : List ℕ) where
 
     pub counts-seen : (e : Edition) (cards blocks waiting pooled : ℕ) (last : OrderNo) → e ≡ edition_of w → cards ≡ cards_of w → blocks ≡ blocks_of w → waiting ≡ waiting_of w
         → pooled ≡ pooled_of w → last ≡ last_of w
-        → Seen.Counts (record { edition = e; cards = cards; blocks = blocks; waiting = waiting; pooled = pooled; last = last }) ≡ looks w counts
+        → Ok (Seen.Counts (record { edition = e; cards = cards; blocks = blocks; waiting = waiting; pooled = pooled; last = last })) ≡ looks w counts
     unfolding looks unless
     counts-seen e cards blocks waiting pooled last e₀ e₁ e₂ e₃ e₄ e₅ =
         rw (f, e₀, e₁, e₂, e₃, e₄, e₅, edition-is, cards-is, blocks_is, waiting-is w, pooled-is w, last-is)
 
     module _ (i pooled : ℕ) (e : pooled ≡ pooled_of w) where
-      pub no-message : pooled ≤ i → Seen.Refused NoSuchMessage ≡ looks w (message i)
+      pub no-message : pooled ≤ i → Err NoSuchMessage ≡ looks w (message i)
       unfolding looks unless no_message
       no-message h = rw (f, pooled-is w, ← e, le-leb pooled i h)
 
-      pub message-seen : i < pooled → (m : Message) → m ≡ message_at w i → Seen.Message m ≡ looks w (message i)
+      pub message-seen : i < pooled → (m : Message) → m ≡ message_at w i → Ok (Seen.Message m) ≡ looks w (message i)
       unfolding looks unless no_message
-      message-seen h m k = rw (f, pooled-is w, ← e, lt-leb pooled i h) (ap Seen.Message (k ∙ sym (view-message w i (rw (← e) h))))
+      message-seen h m k = rw (f, pooled-is w, ← e, lt-leb pooled i h) (ap (λ n. Ok (Seen.Message n)) (k ∙ sym (view-message w i (rw (← e) h))))
 
     module _ (i waiting : ℕ) (e : waiting ≡ waiting_of w) where
-      pub no-request : waiting ≤ i → Seen.Refused NoSuchMessage ≡ looks w (request i)
+      pub no-request : waiting ≤ i → Err NoSuchMessage ≡ looks w (request i)
       unfolding looks unless
       no-request h = rw (f, waiting-is w, ← e, le-leb waiting i h)
 
-      pub request-seen : i < waiting → (r : Request) → r ≡ request_at w i → Seen.Request r ≡ looks w (request i)
+      pub request-seen : i < waiting → (r : Request) → r ≡ request_at w i → Ok (Seen.Request r) ≡ looks w (request i)
       unfolding looks unless
-      request-seen h r k = rw (f, waiting-is w, ← e, lt-leb waiting i h) (ap Seen.Request (k ∙ sym (view-request w i (rw (← e) h))))
+      request-seen h r k = rw (f, waiting-is w, ← e, lt-leb waiting i h) (ap (λ n. Ok (Seen.Request n)) (k ∙ sym (view-request w i (rw (← e) h))))
 
     module _ (b blocks : ℕ) (e : blocks ≡ blocks_of w) where
-      pub no-home : blocks ≤ b → Seen.Refused NoSuchBlock ≡ looks w (home b)
+      pub no-home : blocks ≤ b → Err NoSuchBlock ≡ looks w (home b)
       unfolding looks unless no_block
       no-home h = rw (f, blocks_is, ← e, le-leb blocks b h)
 
@@ -81,13 +80,13 @@ module _ (w : List ℕ) where
       in-range h = let s = (sizes w f).few-blocks in omega (arith, s, e)
 
       pub home-seen : b < blocks → (m o s : ℕ) → m ≡ memory_at w b → o ≡ owner_at w b → s ≡ sharers_at w b
-          → Seen.Home (record { memory = m; owner = o; sharers = s }) ≡ looks w (home b)
+          → Ok (Seen.Home (record { memory = m; owner = o; sharers = s })) ≡ looks w (home b)
       unfolding looks unless no_block
       home-seen h m o s e₁ e₂ e₃ = rw (f, blocks_is, ← e, lt-leb blocks b h, view-block w b (in-range h), e₁, e₂, e₃)
 
-    pub seen_of : Sought → Seen
-    seen_of (There x) = Seen.Cell x
-    seen_of (Missing x) = Seen.Refused x
+    pub seen_of : Result Cell Refusal → Result Seen Refusal
+    seen_of (Ok x) = Ok (Seen.Cell x)
+    seen_of (Err x) = Err x
 
     pub cell-seen : (k b : ℕ) → seen_of (sought w k b) ≡ looks w (cell k b)
     unfolding seen_of sought looks unless no_card no_block
@@ -99,12 +98,12 @@ module _ (w : List ℕ) where
         let s = sizes w f in
         let hk = leb-false (cards_of w) k p in
         let hb = leb-false (blocks_of w) b q in
-        ap Seen.Cell (sym (view-cell w k b (omega (arith, s.few-cards)) (omega (arith, s.few-blocks)))))))
+        ap (λ x. Ok (Seen.Cell x)) (sym (view-cell w k b (omega (arith, s.few-cards)) (omega (arith, s.few-blocks)))))))
 
-    pub cell-is : (k b : ℕ) (x : Cell) → There x ≡ sought w k b → Seen.Cell x ≡ looks w (cell k b)
+    pub cell-is : (k b : ℕ) (x : Cell) → Ok x ≡ sought w k b → Ok (Seen.Cell x) ≡ looks w (cell k b)
     unfolding seen_of
     cell-is k b x e = ap seen_of e ∙ cell-seen k b
 
-    pub cell-missing : (k b : ℕ) (x : Refusal) → Missing x ≡ sought w k b → Seen.Refused x ≡ looks w (cell k b)
+    pub cell-missing : (k b : ℕ) (x : Refusal) → Err x ≡ sought w k b → Err x ≡ looks w (cell k b)
     unfolding seen_of
     cell-missing k b x e = ap seen_of e ∙ cell-seen k b

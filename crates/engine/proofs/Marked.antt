@@ -1,4 +1,5 @@
 -- The marked sequences come out of calls: on words that say a chassis, what keeps the promises answers as the rules do.
+use Rattle.std.specs.Prelude.{Err}
 use Prim.Native.Nat.{ℕ, ◌^◌}
 use mathlib.Core.Bool.{Bool, true, false, cond, ◌&&◌, true≢false}
 use mathlib.Core.List.{List, [], ◌∷◌}
@@ -8,7 +9,7 @@ use borrow.Author.Tests.{eqb-true, ltb-true}
 use Rattle.rules.specs.Tests.{all_of}
 use Rattle.rules.specs.Lists.{All}
 use Rattle.rules.specs.Chassis.{Chassis, no_chassis}
-use Rattle.rules.specs.Answers.{refusal_of, value_of, Result, result, refused_by}
+use Rattle.rules.specs.Answers.{refusal_of, value_of, Step, result, refused_by}
 use Rattle.rules.specs.Formed.{well_formed}
 use Rattle.rules.specs.Events.{EventFits, step, start}
 use Rattle.rules.specs.Marked.{
@@ -20,8 +21,7 @@ use Rattle.rules.specs.Marked.{
   plays,
   marked_table,
 }
-use Rattle.rules.specs.declared.Answer.{Answer}
-use Rattle.rules.specs.declared.Answer.TheVariants.{Refused}
+use Rattle.rules.specs.Answers.{Answer}
 use Rattle.rules.specs.declared.Refusal.TheVariants.{IllFormed}
 use Rattle.rules.specs.declared.Event.{Event}
 use Rattle.rules.specs.declared.Event.TheVariants.{Load, Store, Drop, Ask, Order, Deliver, Copy, Rejoin}
@@ -51,7 +51,7 @@ module _ (w : List ℕ) (c : Chassis) (m : Means w c) where
   ill f = test (well_formed c) (λ h. absurd (true≢false (sym (ap formed m.0 ∙ well h) ∙ f))) (λ h. h)
 
 -- what keeps an event's promise does what the rules do
-ill-step : (c : Chassis) (e : Event) → well_formed c ≡ false → step c e ≡ result (Refused IllFormed) c
+ill-step : (c : Chassis) (e : Event) → well_formed c ≡ false → step c e ≡ result (Err IllFormed) c
 unfolding step refused_by
 ill-step c e h = rw h
 
@@ -59,21 +59,21 @@ answered : (w : List ℕ) (c : Chassis) → Means w c → (e : Event) (r : Answe
     → (r ≡ (step c e).answer) × (w' ≡ words (step c e).after)
 answered w c m e r w' a = test (formed w)
     (λ f. (
-      a.answer ∙ ap (λ t. cond t (step (view w) e).answer (Refused IllFormed)) f ∙ ap (λ (d : Chassis). (step d e).answer) (view-is w c m),
+      a.answer ∙ ap (λ t. cond t (step (view w) e).answer (Err IllFormed)) f ∙ ap (λ (d : Chassis). (step d e).answer) (view-is w c m),
       a.after ∙ ap (λ t. cond t (words (step (view w) e).after) w) f ∙ ap (λ (d : Chassis). words (step d e).after) (view-is w c m),
     ))
     (λ f. let s = ill-step c e (ill w c m f) in (
-      a.answer ∙ ap (λ t. cond t (step (view w) e).answer (Refused IllFormed)) f ∙ sym (ap (λ (o : Result). o.answer) s),
-      a.after ∙ ap (λ t. cond t (words (step (view w) e).after) w) f ∙ m.0 ∙ sym (ap (λ (o : Result). words o.after) s),
+      a.answer ∙ ap (λ t. cond t (step (view w) e).answer (Err IllFormed)) f ∙ sym (ap (λ (o : Step). o.answer) s),
+      a.after ∙ ap (λ t. cond t (words (step (view w) e).after) w) f ∙ m.0 ∙ sym (ap (λ (o : Step). words o.after) s),
     ))
 
 step-means : (w : List ℕ) (c : Chassis) → Means w c → (e : Event) → EventFits e → view (words (step c e).after) ≡ (step c e).after
 step-means w c m e f = test (well_formed c)
     (λ h. (step-says c e f (well w c m h, m.1)).1)
-    (λ h. subst (λ (o : Result). view (words o.after) ≡ o.after) (sym (ill-step c e h)) m.1)
+    (λ h. subst (λ (o : Step). view (words o.after) ≡ o.after) (sym (ill-step c e h)) m.1)
 
 pub start-means : (e : Edition) (cards blocks : ℕ) → view (words (start e cards blocks).after) ≡ (start e cards blocks).after
-start-means e cards blocks = start-cases e cards blocks (λ (o : Result). view (words o.after) ≡ o.after)
+start-means e cards blocks = start-cases e cards blocks (λ (o : Step). view (words o.after) ≡ o.after)
     (λ _. fresh-view e cards blocks) (λ _. fresh-view Msi 0 0)
 
 -- what an event stores, or 0; and that what a line stores fits, a test that antt computes

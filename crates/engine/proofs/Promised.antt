@@ -1,4 +1,5 @@
 -- The promises: what is done on formed words keeps them, and nothing second does.
+use Rattle.std.specs.Prelude.{Err, Ok}
 use Prim.Native.Nat.{ℕ}
 use mathlib.Core.Bool.{true, false}
 use mathlib.Core.List.{List}
@@ -10,8 +11,7 @@ use Rattle.rules.specs.Answers.{refused_by}
 use Rattle.rules.specs.Formed.{sizes}
 use Rattle.rules.specs.Events.{start}
 use Rattle.rules.specs.declared.Edition.{Edition}
-use Rattle.rules.specs.declared.Answer.{Answer}
-use Rattle.rules.specs.declared.Answer.TheVariants.{Done, Refused}
+use Rattle.rules.specs.Answers.{Answer}
 use Rattle.rules.specs.declared.Refusal.TheVariants.{NoSuchSize, IllFormed}
 use Rattle.rules.specs.declared.Event.{Event}
 use Rattle.rules.proofs.Unique.{one_answer}
@@ -26,12 +26,12 @@ use Rattle.engine.specs.Promise.{Answers, Starts, StartsUnique, AnswersUnique}
 -- Start, on the words of an empty chassis
 
 pub not-started : (e : Edition) (cards blocks : ℕ) → sizes cards blocks ≡ false → (w : List ℕ) → w ≡ words no_chassis
-    → Starts e cards blocks (Refused NoSuchSize) w
+    → Starts e cards blocks (Err NoSuchSize) w
 unfolding start refused_by
 not-started e cards blocks t w is = record { answer = rw t; after = rw t is }
 
 pub started : (e : Edition) (cards blocks : ℕ) → sizes cards blocks ≡ true → (w w₁ w₂ w₃ : List ℕ) → w ≡ words no_chassis
-    → w₁ ≡ set w edition_at (edition_no e) → w₂ ≡ set w₁ cards_at cards → w₃ ≡ set w₂ blocks_at blocks → Starts e cards blocks (Done 0) w₃
+    → w₁ ≡ set w edition_at (edition_no e) → w₂ ≡ set w₁ cards_at cards → w₃ ≡ set w₂ blocks_at blocks → Starts e cards blocks (Ok 0) w₃
 unfolding start refused_by
 started e cards blocks t w w₁ w₂ w₃ is e₁ e₂ e₃ = record { answer = rw t; after = rw t (counted e cards blocks w w₁ w₂ w₃ is e₁ e₂ e₃) }
 
@@ -43,7 +43,7 @@ answers-formed w e r w' f d = record {
   after = rw (f, step-act (view w) e (formed-chassis w f)) d.after;
 }
 
-pub answers-ill-formed : (w : List ℕ) (e : Event) → formed w ≡ false → Answers w e (Refused IllFormed) w
+pub answers-ill-formed : (w : List ℕ) (e : Event) → formed w ≡ false → Answers w e (Err IllFormed) w
 answers-ill-formed w e f = record { answer = rw f; after = rw f }
 
 -- Nothing second

@@ -1,5 +1,5 @@
 -- Calls in a row: demand 3 and the marked sequences of the functions, by what they promise.
-use Rattle.std.specs.Prelude.{ℕ, true, List, [], ◌∷◌, ◌≡◌, ◌≢◌}
+use Rattle.std.specs.Prelude.{Err, Ok, ℕ, true, List, [], ◌∷◌, ◌≡◌, ◌≢◌}
 use Rattle.rules.specs.Lists.{All}
 use Rattle.rules.specs.Answers.{refusal_of, value_of}
 use Rattle.rules.specs.Events.{EventFits}
@@ -7,8 +7,7 @@ use Rattle.rules.specs.History.{Did, did}
 use Rattle.rules.specs.Demand.{Coherent}
 use Rattle.rules.specs.Marked.{Line, starts, ◌gives◌, ◌refused◌, shows, marked_table}
 use Rattle.rules.specs.declared.Edition.{Edition}
-use Rattle.rules.specs.declared.Answer.{Answer}
-use Rattle.rules.specs.declared.Answer.TheVariants.{Done, Refused}
+use Rattle.rules.specs.Answers.{Answer}
 use Rattle.rules.specs.declared.Refusal.TheVariants.{Impossible, IllFormed}
 use Rattle.rules.specs.declared.Event.{Event}
 use Rattle.words.specs.Words.{view}
@@ -18,7 +17,7 @@ use Rattle.engine.specs.Promise.{Answers, Starts}
 
 -- calls in a row, each on the words that the one before left; the log is of what they answered themselves, newest first
 pub data Called : List ℕ → List Did → Type 0 where
-  started : {w : List ℕ} (e : Edition) (cards blocks v : ℕ) → Starts e cards blocks (Done v) w → Called w []
+  started : {w : List ℕ} (e : Edition) (cards blocks v : ℕ) → Starts e cards blocks (Ok v) w → Called w []
   called : {w w' : List ℕ} {log : List Did} (e : Event) (r : Answer)
       → Called w log → EventFits e → Answers w e r w' → Called w' (did (view w) e r ∷ log)
 
@@ -26,7 +25,7 @@ pub data Called : List ℕ → List Did → Type 0 where
 pub record CallsCoherent (w : List ℕ) (log : List Did) : Type 0 where
   pub coherent : Coherent (record { now = view w; log = log })
   -- 13 and 15 are never answered, whatever is called next
-  pub never_13_or_15 : (e : Event) (r : Answer) (w' : List ℕ) → Answers w e r w' → (r ≢ Refused Impossible) × (r ≢ Refused IllFormed)
+  pub never_13_or_15 : (e : Event) (r : Answer) (w' : List ℕ) → Answers w e r w' → (r ≢ Err Impossible) × (r ≢ Err IllFormed)
 
 abbrev pub CallsAreCoherent : Type 0
 CallsAreCoherent = (w : List ℕ) (log : List Did) → Called w log → CallsCoherent w log

@@ -1,9 +1,10 @@
 -- What can be looked at in a chassis, and what is seen. A look changes nothing: the state is lent to be read only.
-use Rattle.std.specs.Prelude.{ℕ, cond, List, [], ◌∷◌, length, get_or, leb}
+use Rattle.std.specs.Prelude.{Result, Err, Ok, ℕ, cond, List, [], ◌∷◌, length, get_or, leb}
 use Rattle.rules.specs.Chassis.{Block, Chassis, cell_of, message_of, unused_request}
 use Rattle.rules.specs.Answers.{Reason, ◌if◌}
 use Rattle.rules.specs.Events.{no_card, no_block, no_message}
 use Rattle.rules.specs.declared.Home.{Home}
+use Rattle.rules.specs.declared.Refusal.{Refusal}
 use Rattle.rules.specs.declared.Refusal.TheVariants.{NoSuchMessage, IllFormed}
 use Rattle.words.specs.Words.{view, formed}
 use Rattle.engine.specs.declared.Counts.{Counts}
@@ -46,10 +47,10 @@ shown c (cell k b) = Seen.Cell (cell_of c k b)
 shown c (home b) = Seen.Home (home_of (c.block b))
 
 -- the first reason that holds refuses
-unfoldable pub unless : List Reason → Seen → Seen
-unless [] s = s
-unless (r ∷ rs) s = cond r.holds (Seen.Refused r.why) (unless rs s)
+unfoldable pub unless : List Reason → Seen → Result Seen Refusal
+unless [] s = Ok s
+unless (r ∷ rs) s = cond r.holds (Err r.why) (unless rs s)
 
 -- what is seen on words: 15 first
-unfoldable pub looks : List ℕ → Look → Seen
-looks w q = cond (formed w) (unless (look_reasons (view w) q) (shown (view w) q)) (Seen.Refused IllFormed)
+unfoldable pub looks : List ℕ → Look → Result Seen Refusal
+looks w q = cond (formed w) (unless (look_reasons (view w) q) (shown (view w) q)) (Err IllFormed)

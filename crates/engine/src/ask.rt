@@ -1,62 +1,54 @@
-// Ask, on words that are formed: the cell moves by the table, and the request joins the line's tail.
-ghost use Rattle.std.specs.Prelude.{◌≡◌, true};
+// Ask: the cell moves by the table, and the request joins the line's tail.
+ghost use Rattle.std.specs.Prelude.{◌≡◌, Ok};
 ghost use Rattle.rules.specs.Chassis.{goes_for};
 ghost use Rattle.rules.specs.declared.Event.TheVariants.{Ask};
-ghost use Rattle.engine.specs.declared.cells.Sought.TheVariants.{There};
-ghost use Rattle.words.specs.Words.{formed};
 ghost use Rattle.words.specs.Inner.Parts.{Does};
 ghost use Rattle.engine.specs.Inner.Sought.{sought};
 
-use crate::cells::{Sought, find};
+use crate::chassis::Chassis;
 use crate::fields::{cards, put_cell, waiting};
-use crate::lists::push_request;
+use crate::lists::push;
 use crate::masks::inside;
-use rules::numbers::{GETS, NONE, PUTX, ROOM};
+use rules::numbers::{GETS, PUTX, ROOM};
 use rules::{Answer, Cell, Mask, OrderNo, Refusal, Request, RetryNo, table};
-use words::layout::WORDS;
 
-// Refusals 1 and 2 first, at the look-up.
-pub(crate) fn ask(s: &mut [u64; WORDS], card: u8, block: u8, kind: u8, mask: Mask) -> Answer
-    requires { formed s.old ≡ true }
-    ensures { Does s.old (Ask card block kind mask) result s.new }
-{
-    match find(s, card, block) {
-        Sought::Missing(refusal) => Answer::Refused(refusal),
-        Sought::There(cell) => ask_from(s, card, block, kind, mask, cell),
+impl Chassis<'_> {
+    // Refusals 1 and 2 first, at the look-up.
+    pub(crate) fn ask(&mut self, card: u8, block: u8, kind: u8, mask: Mask) -> Answer
+        ensures same_words { self.new.words.ghost_name ≡ self.old.words.ghost_name }
+        ensures done { Does self.old.words.now (Ask card block kind mask) result self.new.words.now }
+    {
+        let cell = self.view().find(card, block)?;
+        self.ask_from(card, block, kind, mask, cell)
     }
-}
 
-// The cell is there: refusals 5, 6, 4 and 7, in this order.
-fn ask_from(s: &mut [u64; WORDS], card: u8, block: u8, kind: u8, mask: Mask, cell: Cell) -> Answer
-    requires { (formed s.old ≡ true) × (There cell ≡ sought s.old card block) }
-    ensures { Does s.old (Ask card block kind mask) result s.new }
-{
-    if (kind < GETS) | (PUTX < kind) {
-        return Answer::Refused(Refusal::NoSuchKind);
-    }
-    if !inside(mask, cards(s)) {
-        return Answer::Refused(Refusal::StrangerInMask);
-    }
-    let state = cell.state;
-    let to = table::asked(kind, state);
-    if to == NONE {
-        return Answer::Refused(Refusal::AskNotAllowed);
-    }
-    if (ROOM as u64) <= waiting(s) {
-        return Answer::Refused(Refusal::LineFull);
-    }
-    put_cell(s, card, block, goes_for(OrderNo(0), to, cell));
-    push_request(
-        s,
-        Request {
+    // The cell is there: refusals 5, 6, 4 and 7, in this order.
+    fn ask_from(&mut self, card: u8, block: u8, kind: u8, mask: Mask, cell: Cell) -> Answer
+        requires { Ok cell ≡ sought self.old.words.now card block }
+        ensures same_words { self.new.words.ghost_name ≡ self.old.words.ghost_name }
+        ensures done { Does self.old.words.now (Ask card block kind mask) result self.new.words.now }
+    {
+        if (kind < GETS) | (PUTX < kind) {
+            return Err(Refusal::NoSuchKind);
+        }
+        if !inside(mask, cards(self.words)) {
+            return Err(Refusal::StrangerInMask);
+        }
+        let to = table::asked(kind, cell.state).ok_or(Refusal::AskNotAllowed)?;
+        if ROOM as u64 <= waiting(self.words) {
+            return Err(Refusal::LineFull);
+        }
+        put_cell(self.words, card, block, goes_for(OrderNo(0), to, cell));
+        let request = Request {
             card,
             block,
             kind,
             mask,
             retry: RetryNo(0),
-        },
-    );
-    Answer::Done(0)
+        };
+        push(self.words, request);
+        Ok(0)
+    }
 }
 
 // The cell in another state, awaiting a number: the value is kept where that state loads.

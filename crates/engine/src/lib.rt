@@ -3,9 +3,11 @@
 
 mod ask;
 mod cells;
+mod chassis;
 pub mod events;
 mod fields;
 mod formed;
+mod head;
 mod judge;
 mod lists;
 pub mod looks;
@@ -20,7 +22,7 @@ mod sees;
 pub mod start;
 mod turns;
 
-use rules::{Cell, Edition, Home, Message, OrderNo, Refusal, Request};
+use rules::{Cell, Edition, Home, Message, OrderNo, Request};
 
 // The edition of a chassis, how much there is in it, and the last order number given.
 #[derive(Clone, Copy)]
@@ -33,7 +35,7 @@ pub struct Counts {
     pub last: OrderNo,
 }
 
-// What a look shows, or why it shows nothing.
+// What a look shows.
 #[derive(Clone, Copy)]
 pub enum Seen {
     Counts(Counts),
@@ -41,5 +43,4 @@ pub enum Seen {
     Request(Request),
     Cell(Cell),
     Home(Home),
-    Refused(Refusal),
 }

@@ -3,81 +3,66 @@ ghost use Rattle.std.specs.Prelude.{◌≡◌};
 ghost use Rattle.engine.specs.Looking.{looks};
 ghost use Rattle.engine.specs.Looking.{counts, message, request, cell, home};
 
-use crate::cells::{Sought, find};
+use crate::chassis::View;
 use crate::fields::{
     blocks, cards, edition, home_at, last, message_at, pooled, request_at, waiting,
 };
-use crate::formed::is_formed;
 use crate::{Counts, Seen};
 use rules::Refusal;
 use words::layout::WORDS;
 
 // The sizes, how many wait and how many messages there are, and the last order number.
-pub fn counts(state: &[u64; WORDS]) -> Seen
+pub fn counts(state: &[u64; WORDS]) -> Result<Seen, Refusal>
     ensures { result ≡ looks state.now counts }
 {
-    if !is_formed(state) {
-        return Seen::Refused(Refusal::IllFormed);
-    }
-    let last = last(state);
-    Seen::Counts(Counts {
+    View::of(state)?;
+    Ok(Seen::Counts(Counts {
         edition: edition(state),
         cards: cards(state),
         blocks: blocks(state),
         waiting: waiting(state),
         pooled: pooled(state),
-        last,
-    })
+        last: last(state),
+    }))
 }
 
 // A message of the pool.
-pub fn message(state: &[u64; WORDS], position: u8) -> Seen
+pub fn message(state: &[u64; WORDS], position: u8) -> Result<Seen, Refusal>
     ensures { result ≡ looks state.now (message position) }
 {
-    if !is_formed(state) {
-        return Seen::Refused(Refusal::IllFormed);
-    }
+    View::of(state)?;
     if pooled(state) <= position as u64 {
-        return Seen::Refused(Refusal::NoSuchMessage);
+        return Err(Refusal::NoSuchMessage);
     }
-    Seen::Message(message_at(state, position as usize))
+    Ok(Seen::Message(message_at(state, position)))
 }
 
 // A request of the line.
-pub fn request(state: &[u64; WORDS], position: u8) -> Seen
+pub fn request(state: &[u64; WORDS], position: u8) -> Result<Seen, Refusal>
     ensures { result ≡ looks state.now (request position) }
 {
-    if !is_formed(state) {
-        return Seen::Refused(Refusal::IllFormed);
-    }
+    View::of(state)?;
     if waiting(state) <= position as u64 {
-        return Seen::Refused(Refusal::NoSuchMessage);
+        return Err(Refusal::NoSuchMessage);
     }
-    Seen::Request(request_at(state, position as usize))
+    Ok(Seen::Request(request_at(state, position)))
 }
 
 // A card's cell for a block.
-pub fn cell(state: &[u64; WORDS], card: u8, block: u8) -> Seen
+pub fn cell(state: &[u64; WORDS], card: u8, block: u8) -> Result<Seen, Refusal>
     ensures { result ≡ looks state.now (cell card block) }
 {
-    if !is_formed(state) {
-        return Seen::Refused(Refusal::IllFormed);
-    }
-    match find(state, card, block) {
-        Sought::Missing(refusal) => Seen::Refused(refusal),
-        Sought::There(cell) => Seen::Cell(cell),
-    }
+    let view = View::of(state)?;
+    Ok(Seen::Cell(view.find(card, block)?))
 }
 
 // Home's part of a block.
-pub fn home(state: &[u64; WORDS], block: u8) -> Seen
+pub fn home(state: &[u64; WORDS], block: u8) -> Result<Seen, Refusal>
     ensures { result ≡ looks state.now (home block) }
 {
-    if !is_formed(state) {
-        return Seen::Refused(Refusal::IllFormed);
-    }
+    View::of(state)?;
     if blocks(state) <= block as u64 {
-        return Seen::Refused(Refusal::NoSuchBlock);
+        return Err(Refusal::NoSuchBlock);
     }
-    Seen::Home(home_at(state, block))
+    Ok(Seen::Home(home_at(state, block)))
 }

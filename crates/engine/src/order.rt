@@ -1,59 +1,46 @@
-// Order, on words that are formed: the request at the head has its turn.
-ghost use Rattle.std.specs.Prelude.{◌≡◌, true, ◌<◌};
+// Order: the request at the head has its turn.
+ghost use Rattle.std.specs.Prelude.{◌≡◌, ◌<◌, Ok};
 ghost use Rattle.rules.specs.declared.Event.TheVariants.{Order};
-ghost use Rattle.engine.specs.declared.judge.Judged.TheVariants.{Yes};
-ghost use Rattle.words.specs.Words.{view, waiting_of, request_at, formed};
+ghost use Rattle.words.specs.Words.{view, waiting_of, request_at};
 ghost use Rattle.words.specs.Inner.Parts.{Does};
 ghost use Rattle.engine.specs.Inner.Ordering.{judged};
 
-use crate::fields::{cell_at, home_at, last, put_home, request_at, set_last, waiting};
-use crate::judge::{Judged, judge, owner_cell};
+use crate::chassis::Chassis;
+use crate::fields::{last, put_home, request_at, set_last, waiting};
 use crate::sees::cards_see;
-use crate::turns::{given, giver, home_after, line_after, outcome_no, pool_after};
-use rules::{Answer, Message, OrderNo, Refusal, Request, Turn};
-use words::layout::WORDS;
+use crate::turns::{line_after, outcome_no, pool_after};
+use rules::{Answer, OrderNo, Refusal, Request, Turn};
 
-// Refusal 8 first; then what is decided of the head.
-pub(crate) fn order(s: &mut [u64; WORDS]) -> Answer
-    requires { formed s.old ≡ true }
-    ensures { Does s.old Order result s.new }
-{
-    if waiting(s) == 0 {
-        return Answer::Refused(Refusal::LineEmpty);
+impl Chassis<'_> {
+    // Refusal 8 first; then what is decided of the head.
+    pub(crate) fn order(&mut self) -> Answer
+        ensures same_words { self.new.words.ghost_name ≡ self.old.words.ghost_name }
+        ensures done { Does self.old.words.now Order result self.new.words.now }
+    {
+        if waiting(self.words) == 0 {
+            return Err(Refusal::LineEmpty);
+        }
+        let request = request_at(self.words, 0);
+        let turn = self.view().judge(request)?;
+        self.take_turn(request, turn)
     }
-    let request = request_at(s, 0);
-    match judge(s, request) {
-        Judged::No(refusal) => Answer::Refused(refusal),
-        Judged::Yes(turn) => take_turn(s, request, turn),
-    }
-}
 
-// The head's turn, under the next order number: the cards' parts, home's part, the message, the line.
-fn take_turn(s: &mut [u64; WORDS], request: Request, turn: Turn) -> Answer
-    requires { (formed s.old ≡ true) × (0 < waiting_of s.old) × (request ≡ request_at s.old 0)
-        × (Yes turn ≡ judged (view s.old) request) }
-    ensures { Does s.old Order result s.new }
-{
-    let before = last(s);
-    let number = OrderNo(before.0 + 1);
-    let block = request.block;
-    let asker = request.card;
-    let home = home_at(s, block);
-    let put = cell_at(s, asker, block);
-    let owner = owner_cell(s, block, home.owner);
-    let sender = giver(home, asker);
-    let gives = given(home, sender, owner);
-    cards_see(s, turn, number, request, home.owner);
-    put_home(s, block, home_after(turn, home, asker, put, owner, gives));
-    let message = Message {
-        sender,
-        receiver: asker,
-        block,
-        value: gives,
-        number,
-    };
-    pool_after(s, turn, message);
-    line_after(s, turn, home, request);
-    set_last(s, number);
-    Answer::Done(outcome_no(turn))
+    // The head's turn, under the next order number: the cards' parts, home's part, the message, the line.
+    fn take_turn(&mut self, request: Request, turn: Turn) -> Answer
+        requires { (0 < waiting_of self.old.words.now) × (request ≡ request_at self.old.words.now 0)
+            × (Ok turn ≡ judged (view self.old.words.now) request) }
+        ensures same_words { self.new.words.ghost_name ≡ self.old.words.ghost_name }
+        ensures done { Does self.old.words.now Order result self.new.words.now }
+    {
+        let before = last(self.words);
+        let number = OrderNo(before.0 + 1);
+        let head = self.view().head(request);
+        let outcome = outcome_no(turn);
+        cards_see(self.words, turn, number, head);
+        put_home(self.words, head.request.block, head.home_after(turn));
+        pool_after(self.words, turn, number, head);
+        line_after(self.words, turn, head);
+        set_last(self.words, number);
+        Ok(outcome)
+    }
 }

@@ -1,52 +1,61 @@
 // The cards' parts of a turn: what the asker, the owner and the readers make of the request.
-ghost use Rattle.std.specs.Prelude.{◌≡◌, ℕ, ◌≤◌, ◌<◌};
-ghost use Rattle.rules.specs.Numbers.{most_cards, most_blocks};
-ghost use Rattle.rules.specs.Chassis.{Block, Chassis, cell_of, block_changed};
+ghost use Rattle.std.specs.Prelude.{◌≡◌, ℕ, ◌<◌};
+ghost use Rattle.rules.specs.Numbers.{most_cards};
+ghost use Rattle.rules.specs.Chassis.{Block, Chassis, goes, cell_of, block_changed};
 ghost use Rattle.rules.specs.Order.{upshot_of, sees};
-ghost use Rattle.words.specs.Words.{words, cards_of};
+ghost use Rattle.words.specs.Words.{words};
 ghost use Rattle.words.specs.Claims.{CellFits};
 ghost use Rattle.words.specs.Inner.Parts.{seen_below};
 
 use crate::ask::goes_for;
-use crate::fields::{cards, cell_at, idle, put_cell};
+use crate::fields::{cell_at, idle, put_cell};
+use crate::head::Head;
 use crate::masks::has;
-use crate::turns::outcome_no;
-use rules::numbers::{GRANTED, TOO_SMALL};
-use rules::{Cell, OrderNo, Request, Turn, table};
+use rules::{Cell, OrderNo, Turn, table};
 use words::layout::WORDS;
 
 // The asker's cell after the turn.
+#[tactic(auto, unfolding(rules::specs::Order::upshot_of))]
 fn asker_sees(turn: Turn, number: OrderNo, cell: Cell) -> Cell
     ensures { result ≡ (upshot_of turn).asker_sees number cell }
 {
-    match outcome_no(turn) {
-        GRANTED => goes_for(number, table::granted_to(cell.state), cell),
-        TOO_SMALL => cell,
-        _ => idle(),
+    match turn {
+        Turn::GetsGranted(_) | Turn::GetxGranted => {
+            goes_for(number, table::granted_to(cell.state), cell)
+        }
+        Turn::GetsMissed | Turn::GetxMissed => cell,
+        Turn::PutTaken | Turn::PutLapsed => idle(),
     }
 }
 
+// The cell in another state, awaiting no number.
+fn goes(state: u8, cell: Cell) -> Cell
+    ensures { result ≡ goes state cell }
+{
+    goes_for(OrderNo(0), state, cell)
+}
+
 // The owner's cell after the turn.
+#[tactic(auto, unfolding(rules::specs::Order::upshot_of))]
 fn owner_sees(turn: Turn, cell: Cell) -> Cell
     ensures { result ≡ (upshot_of turn).owner_sees cell }
 {
     match turn {
-        Turn::GetsGranted(edition) => {
-            goes_for(OrderNo(0), table::sees_gets(edition, cell.state), cell)
-        }
-        Turn::GetxGranted => goes_for(OrderNo(0), table::sees_getx(cell.state), cell),
+        Turn::GetsGranted(edition) => goes(table::sees_gets(edition, cell.state), cell),
+        Turn::GetxGranted => goes(table::sees_getx(cell.state), cell),
         Turn::GetsMissed | Turn::GetxMissed | Turn::PutTaken | Turn::PutLapsed => cell,
     }
 }
 
 // A reader's cell after the turn.
+#[tactic(auto, unfolding(rules::specs::Order::upshot_of))]
 fn reader_sees(turn: Turn, cell: Cell) -> Cell
     ensures { result ≡ (upshot_of turn).reader_sees cell }
 {
     match turn {
         Turn::GetxGranted | Turn::GetxMissed => {
             if table::is_reader(cell.state) {
-                goes_for(OrderNo(0), table::sees_getx(cell.state), cell)
+                goes(table::sees_getx(cell.state), cell)
             } else {
                 cell
             }
@@ -55,15 +64,16 @@ fn reader_sees(turn: Turn, cell: Cell) -> Cell
     }
 }
 
-// What a card makes of the request, where home lists this owner.
-fn seen(turn: Turn, number: OrderNo, request: Request, owner: u8, card: u8, cell: Cell) -> Cell
-    requires { card < most_cards }
-    ensures { (B : Block) → B.owner ≡ owner → B.cell card ≡ cell → result ≡ sees turn B request number card }
+// What a card makes of the request. Turn, number and head are three here and in `pool_after` alone: the other parts of a turn take no number.
+#[tactic(auto, unfolding(rules::specs::Order::sees))]
+fn seen(turn: Turn, number: OrderNo, head: Head, card: u8, cell: Cell) -> Cell
+    ensures { (B : Block) → B.owner ≡ head.home.owner → B.cell card ≡ cell → result ≡ sees turn B head.request number card }
 {
+    let request = head.request;
     if request.card == card {
         return asker_sees(turn, number, cell);
     }
-    if owner == card {
+    if head.home.owner == card {
         return owner_sees(turn, cell);
     }
     if has(request.mask, card) {
@@ -73,29 +83,14 @@ fn seen(turn: Turn, number: OrderNo, request: Request, owner: u8, card: u8, cell
 }
 
 // Every card sees the request, one by one.
-pub(crate) fn cards_see(
-    s: &mut [u64; WORDS],
-    turn: Turn,
-    number: OrderNo,
-    request: Request,
-    owner: u8,
-)
-    requires { (cards_of s.old ≤ most_cards) × (request.block < most_blocks) }
-    ensures { (c : Chassis) → s.old ≡ words c → ((k : ℕ) → k < most_cards → CellFits (cell_of c k request.block))
-        → (c.block request.block).owner ≡ owner
-        → s.new ≡ words (block_changed c request.block (seen_below c.cards turn (c.block request.block) request number)) }
+pub(crate) fn cards_see(s: &mut [u64; WORDS], turn: Turn, number: OrderNo, head: Head)
+    ensures { (c : Chassis) → s.old ≡ words c → ((k : ℕ) → k < most_cards → CellFits (cell_of c k head.request.block))
+        → (c.block head.request.block).owner ≡ head.home.owner
+        → s.new ≡ words (block_changed c head.request.block (seen_below head.cards turn (c.block head.request.block) head.request number)) }
 {
-    let block = request.block;
-    let n = cards(s);
-    let mut card: u8 = 0;
-    while (card as u64) < n {
+    let block = head.request.block;
+    for card in 0..head.cards as u8 {
         let cell = cell_at(s, card, block);
-        put_cell(
-            s,
-            card,
-            block,
-            seen(turn, number, request, owner, card, cell),
-        );
-        card += 1;
+        put_cell(s, card, block, seen(turn, number, head, card, cell));
     }
 }

@@ -32,12 +32,12 @@ pub fn start_in(state: &mut [u64; WORDS], edition: Edition, cards: u8, blocks: u
 {
     start_none(state);
     if !are_sizes(cards as u64, blocks as u64) {
-        return Answer::Refused(Refusal::NoSuchSize);
+        return Err(Refusal::NoSuchSize);
     }
     set_edition(state, edition);
     set_cards(state, cards as u64);
     set_blocks(state, blocks as u64);
-    Answer::Done(0)
+    Ok(0)
 }
 
 // The words of a chassis of no cards and no blocks.
@@ -45,8 +45,7 @@ pub(crate) fn start_none(state: &mut [u64; WORDS])
     ensures { state.new ≡ words no_chassis }
 {
     *state = [0; WORDS];
-    let mut block: u8 = 0;
-    while block < MOST_BLOCKS {
+    for block in 0..MOST_BLOCKS {
         put_home(
             state,
             block,
@@ -56,6 +55,5 @@ pub(crate) fn start_none(state: &mut [u64; WORDS])
                 sharers: 0,
             },
         );
-        block += 1;
     }
 }

@@ -1,26 +1,25 @@
 // What a turn does beside the cards' parts: its outcome, home's part, the message, the line.
-ghost use Rattle.std.specs.Prelude.{◌≡◌, true, ◌++◌, ℕ, ◌≤◌, ◌<◌};
+ghost use Rattle.std.specs.Prelude.{◌≡◌, ◌++◌, ◌≤◌, ◌<◌};
 ghost use Rattle.rules.specs.Lists.{removed};
-ghost use Rattle.rules.specs.Numbers.{most_cards, room, last_retry, granted};
-ghost use Rattle.rules.specs.Chassis.{Block, Chassis, line_changed, pool_changed};
-ghost use Rattle.rules.specs.Formed.{home_or_card};
-ghost use Rattle.rules.specs.Order.{giver, given, keeps, sharers_with, upshot_of, data_for, retry_mask, retried};
-ghost use Rattle.rules.specs.declared.Edition.{Edition};
-ghost use Rattle.rules.specs.declared.OrderNo.{OrderNo};
+ghost use Rattle.rules.specs.Numbers.{room, granted};
+ghost use Rattle.rules.specs.Chassis.{Chassis, line_changed, pool_changed};
+ghost use Rattle.rules.specs.Order.{giver, given, sharers_with, keeps, upshot_of, data_for, retry_mask, retried};
 ghost use Rattle.rules.specs.declared.Turn.TheVariants.{GetsGranted, PutTaken};
-ghost use Rattle.words.specs.Words.{words, cards_of, waiting_of, pooled_of};
-ghost use Rattle.words.specs.Inner.Parts.{HomeIs, HomeAfter};
+ghost use Rattle.words.specs.Words.{words, waiting_of, pooled_of};
+ghost use Rattle.words.specs.Inner.Parts.{Becomes};
+ghost use Rattle.engine.specs.Inner.Heads.{block_read, home_after};
 
-use crate::fields::cards;
-use crate::lists::{push_message, push_request, remove_request};
+use crate::head::Head;
+use crate::lists::{push, remove};
 use crate::masks::{every, only, union};
 use rules::numbers::{GRANTED, HOME, LAST_RETRY, PUT_LAPSED, PUT_TAKEN, TOO_SMALL};
-use rules::{Cell, Edition, Home, Mask, Message, Request, RetryNo, Turn, table};
+use rules::{Edition, Home, Mask, Message, OrderNo, Request, RetryNo, Turn, table};
 use words::layout::WORDS;
 
 // The outcome
 
 // The outcome that Order answers.
+#[tactic(auto, unfolding(rules::specs::Order::upshot_of))]
 pub(crate) fn outcome_no(turn: Turn) -> u32
     ensures { result ≡ (upshot_of turn).outcome }
 {
@@ -32,161 +31,178 @@ pub(crate) fn outcome_no(turn: Turn) -> u32
     }
 }
 
-// Home's part
+impl Head {
+    // Home's part
 
-// Who gives the data: the owner; home, where the owner is the asker itself.
-pub(crate) fn giver(home: Home, asker: u8) -> u8
-    ensures { (B : Block) → HomeIs B home → result ≡ giver B asker }
-{
-    if home.owner == asker {
-        return HOME;
+    // Who gives the data: the owner; home, where the owner is the asker itself.
+    #[tactic(auto, unfolding(rules::specs::Order::giver))]
+    fn giver(self) -> u8
+        ensures { result ≡ giver (block_read self) self.request.card }
+    {
+        let owner = self.home.owner;
+        if owner == self.request.card {
+            HOME
+        } else {
+            owner
+        }
     }
-    home.owner
-}
 
-// What an owning card gives away, or else memory's value.
-pub(crate) fn given(home: Home, sender: u8, owner: Cell) -> u32
-    ensures { (B : Block) (q : ℕ) → HomeIs B home → B.cell B.owner ≡ owner → «sender» ≡ giver B q → result ≡ given B q }
-{
-    if sender == HOME {
-        home.memory
-    } else {
-        owner.value
+    // What an owning card gives away, or else memory's value.
+    #[tactic(auto, using(crate::proofs::Heads::value_given), unfolding(rules::specs::Order::given))]
+    fn given(self) -> u32
+        ensures { result ≡ given (block_read self) self.request.card }
+    {
+        if self.giver() == HOME {
+            self.home.memory
+        } else {
+            self.owner.value
+        }
     }
-}
 
-// The sharers after a GETS that is granted: those there were, where home owned or the owner stays, or else the owner; and the asker.
-fn sharers_with(home: Home, stays: bool, asker: u8) -> Mask
-    requires { (asker < most_cards) × (home_or_card most_cards home.owner ≡ true) }
-    ensures { (B : Block) (e : Edition) → HomeIs B home → stays ≡ keeps e B → result ≡ sharers_with e B asker }
-{
-    if (home.owner == HOME) | stays {
-        union(home.sharers, only(asker))
-    } else {
-        union(only(home.owner), only(asker))
+    // An owner that sees GETS and can still give keeps the block.
+    #[tactic(auto, using(crate::proofs::Heads::owner_read), unfolding(rules::specs::Order::keeps))]
+    fn keeps(self, edition: Edition) -> bool
+        ensures { result ≡ keeps edition (block_read self) }
+    {
+        table::can_give(table::sees_gets(edition, self.owner.state))
     }
-}
 
-// Home's part after a GETS that is granted: an owner that can still give keeps the block.
-fn home_after_gets(edition: Edition, home: Home, asker: u8, owner: Cell, gives: u32) -> Home
-    requires { (asker < most_cards) × (home_or_card most_cards home.owner ≡ true) }
-    ensures { (B : Block) → HomeIs B home → B.cell B.owner ≡ owner → given B asker ≡ gives
-        → HomeAfter (GetsGranted edition) B asker result }
-{
-    let stays = table::can_give(table::sees_gets(edition, owner.state));
-    let sharers = sharers_with(home, stays, asker);
-    if stays {
-        return Home {
-            memory: gives,
-            owner: home.owner,
-            sharers,
+    // The sharers after a GETS that is granted: those there were, where home owned or the owner keeps it, or else the owner; and the asker.
+    fn sharers_with(self, edition: Edition) -> Mask
+        ensures { result ≡ sharers_with edition (block_read self) self.request.card }
+    {
+        let owner = self.home.owner;
+        let sharers = if (owner == HOME) | self.keeps(edition) {
+            self.home.sharers
+        } else {
+            only(owner)
         };
+        union(sharers, only(self.request.card))
     }
-    Home {
-        memory: gives,
-        owner: HOME,
-        sharers,
-    }
-}
 
-// Home's part after a put that is taken.
-fn home_after_put(home: Home, put: Cell) -> Home
-    ensures { (B : Block) (q : ℕ) → HomeIs B home → B.cell q ≡ put → HomeAfter PutTaken B q result }
-{
-    if table::leaves_sharers(put.state) {
-        return Home {
-            memory: put.value,
+    // Home's part after a GETS that is granted.
+    #[tactic(auto, unfolding(rules::specs::Order::upshot_of))]
+    fn home_after_gets(self, edition: Edition) -> Home
+        ensures { result ≡ home_after (GetsGranted edition) (block_read self) self.request.card }
+    {
+        let owner = if self.keeps(edition) {
+            self.home.owner
+        } else {
+            HOME
+        };
+        Home {
+            memory: self.given(),
+            owner,
+            sharers: self.sharers_with(edition),
+        }
+    }
+
+    // Home's part after a put that is taken.
+    #[tactic(auto, using(crate::proofs::Heads::asker_read), unfolding(rules::specs::Order::upshot_of))]
+    fn home_after_put(self) -> Home
+        ensures { result ≡ home_after PutTaken (block_read self) self.request.card }
+    {
+        let sharers = if table::leaves_sharers(self.asker.state) {
+            self.home.sharers
+        } else {
+            0
+        };
+        Home {
+            memory: self.asker.value,
             owner: HOME,
-            sharers: home.sharers,
-        };
+            sharers,
+        }
     }
-    Home {
-        memory: put.value,
-        owner: HOME,
-        sharers: 0,
-    }
-}
 
-// Home's part after the turn of the card `asker`, whose cell is `put`, where `gives` is what is given away.
-pub(crate) fn home_after(
-    turn: Turn,
-    home: Home,
-    asker: u8,
-    put: Cell,
-    owner: Cell,
-    gives: u32,
-) -> Home
-    requires { (asker < most_cards) × (home_or_card most_cards home.owner ≡ true) }
-    ensures { (B : Block) → HomeIs B home → B.cell asker ≡ put → B.cell B.owner ≡ owner → given B asker ≡ gives
-        → HomeAfter turn B asker result }
-{
-    match turn {
-        Turn::GetsGranted(edition) => home_after_gets(edition, home, asker, owner, gives),
-        Turn::GetxGranted => Home {
-            memory: gives,
-            owner: asker,
-            sharers: 0,
-        },
-        Turn::PutTaken => home_after_put(home, put),
-        Turn::GetsMissed | Turn::GetxMissed | Turn::PutLapsed => home,
+    // Home's part after the turn.
+    #[tactic(auto, unfolding(rules::specs::Order::upshot_of))]
+    pub(crate) fn home_after(self, turn: Turn) -> Home
+        ensures { result ≡ home_after turn (block_read self) self.request.card }
+    {
+        match turn {
+            Turn::GetsGranted(edition) => self.home_after_gets(edition),
+            Turn::GetxGranted => Home {
+                memory: self.given(),
+                owner: self.request.card,
+                sharers: 0,
+            },
+            Turn::PutTaken => self.home_after_put(),
+            Turn::GetsMissed | Turn::GetxMissed | Turn::PutLapsed => self.home,
+        }
+    }
+
+    // The message of a grant under an order number.
+    #[tactic(auto, unfolding(rules::specs::Order::data_for))]
+    fn message(self, number: OrderNo) -> Message
+        ensures { result ≡ data_for (block_read self) self.request number }
+    {
+        Message {
+            sender: self.giver(),
+            receiver: self.request.card,
+            block: self.request.block,
+            value: self.given(),
+            number,
+        }
+    }
+
+    // The mask that home makes for a retry: the owner, if a card, and the sharers; for the last, every card.
+    #[tactic(auto, unfolding(rules::specs::Order::retry_mask))]
+    fn retry_mask(self, retry: RetryNo) -> Mask
+        ensures { result ≡ retry_mask self.cards (block_read self) retry }
+    {
+        let owner = self.home.owner;
+        if LAST_RETRY <= retry.0 {
+            every(self.cards)
+        } else if owner == HOME {
+            self.home.sharers
+        } else {
+            union(only(owner), self.home.sharers)
+        }
+    }
+
+    // The request again, its retry one higher.
+    #[tactic(auto, unfolding(rules::specs::Order::retried))]
+    fn retried(self) -> Request
+        ensures { result ≡ retried self.cards (block_read self) self.request }
+    {
+        let request = self.request;
+        let before = request.retry;
+        let retry = RetryNo(before.0 + 1);
+        Request {
+            card: request.card,
+            block: request.block,
+            kind: request.kind,
+            mask: self.retry_mask(retry),
+            retry,
+        }
     }
 }
 
 // The message
 
 // A grant's message joins the pool.
-pub(crate) fn pool_after(s: &mut [u64; WORDS], turn: Turn, message: Message)
+#[tactic(auto, unfolding(rules::specs::Order::upshot_of))]
+pub(crate) fn pool_after(s: &mut [u64; WORDS], turn: Turn, number: OrderNo, head: Head)
     requires { (upshot_of turn).outcome ≡ granted → pooled_of s.old < room }
-    ensures { (c : Chassis) (B : Block) → s.old ≡ words c → ((request : Request) (n : OrderNo) → data_for B request n ≡ message
-        → s.new ≡ words (pool_changed c (c.pool ++ (upshot_of turn).sent B request n))) }
+    ensures { Becomes s.old s.new (λ c. pool_changed c (c.pool ++ (upshot_of turn).sent (block_read head) head.request number)) }
 {
-    if outcome_no(turn) == GRANTED {
-        push_message(s, message);
+    match turn {
+        Turn::GetsGranted(_) | Turn::GetxGranted => push(s, head.message(number)),
+        Turn::GetsMissed | Turn::GetxMissed | Turn::PutTaken | Turn::PutLapsed => {}
     }
 }
 
 // The line
 
-// The mask that home makes for a retry: the owner, if a card, and the sharers; for the last, every card.
-fn retry_mask(cards: u64, home: Home, retry: RetryNo) -> Mask
-    requires { (cards ≤ most_cards) × (home_or_card most_cards home.owner ≡ true) }
-    ensures { (B : Block) → HomeIs B home → result ≡ retry_mask cards B retry }
-{
-    if LAST_RETRY <= retry.0 {
-        every(cards)
-    } else if home.owner == HOME {
-        home.sharers
-    } else {
-        union(only(home.owner), home.sharers)
-    }
-}
-
-// The request again, its retry one higher.
-fn retried(cards: u64, home: Home, request: Request) -> Request
-    requires { (cards ≤ most_cards) × (home_or_card most_cards home.owner ≡ true) × (request.retry.0 ≤ last_retry.0) }
-    ensures { (B : Block) → HomeIs B home → result ≡ retried cards B request }
-{
-    let before = request.retry;
-    let retry = RetryNo(before.0 + 1);
-    Request {
-        card: request.card,
-        block: request.block,
-        kind: request.kind,
-        mask: retry_mask(cards, home, retry),
-        retry,
-    }
-}
-
 // The head leaves the line; where its mask was too small it joins the tail again.
-pub(crate) fn line_after(s: &mut [u64; WORDS], turn: Turn, home: Home, request: Request)
-    requires { (0 < waiting_of s.old) × (waiting_of s.old ≤ room) × (cards_of s.old ≤ most_cards) × (home_or_card most_cards home.owner ≡ true)
-        × (request.retry.0 ≤ last_retry.0) × ((c : Chassis) × (s.old ≡ words c)) }
-    ensures { (c : Chassis) (B : Block) → s.old ≡ words c → HomeIs B home
-        → s.new ≡ words (line_changed c (removed 0 c.line ++ (upshot_of turn).again c.cards B request)) }
+#[tactic(auto, unfolding(rules::specs::Order::upshot_of))]
+pub(crate) fn line_after(s: &mut [u64; WORDS], turn: Turn, head: Head)
+    requires { (0 < waiting_of s.old) × (waiting_of s.old ≤ room) × ((c : Chassis) × (s.old ≡ words c)) }
+    ensures { Becomes s.old s.new (λ c. line_changed c (removed 0 c.line ++ (upshot_of turn).again head.cards (block_read head) head.request)) }
 {
-    let next = retried(cards(s), home, request);
-    remove_request(s, 0);
-    if outcome_no(turn) == TOO_SMALL {
-        push_request(s, next);
+    remove::<Request>(s, 0);
+    match turn {
+        Turn::GetsMissed | Turn::GetxMissed => push(s, head.retried()),
+        Turn::GetsGranted(_) | Turn::GetxGranted | Turn::PutTaken | Turn::PutLapsed => {}
     }
 }

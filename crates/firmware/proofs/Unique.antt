@@ -1,20 +1,21 @@
 -- What is claimed of the exports: their numbers tell the answers, and nothing second keeps their promises.
+use Rattle.std.specs.Prelude.{Err, Ok}
 use Prim.Native.Nat.{ℕ, ◌*◌, ◌<◌}
 use native.Mathlib.Omega.{arith}
 use lib.Dec.{eqb}
 use mathlib.Core.Path.{◌≡◌, sym, ap, subst, ◌∙◌}
 use Rattle.rules.specs.Numbers.{edition_no}
-use Rattle.rules.specs.Answers.{value_of, Result, refused_by}
+use Rattle.rules.specs.Answers.{value_of, Step, refused_by}
 use Rattle.rules.specs.Formed.{sizes}
 use Rattle.rules.specs.Events.{start}
 use Rattle.rules.specs.declared.Edition.{Edition}
 use Rattle.rules.specs.declared.Edition.TheVariants.{Msi, Mosi}
-use Rattle.rules.specs.declared.Answer.{Answer}
+use Rattle.rules.specs.Answers.{Answer}
 use Rattle.rules.proofs.Tests.{test, cond_cases}
 use Rattle.rules.proofs.Unique.{one_answer}
 use Rattle.journal.specs.Records.{bytes_of}
 use Rattle.journal.specs.Writing.{written_no, place_written}
-use Rattle.journal.specs.declared.Written.{Written}
+use Rattle.journal.specs.Writing.{Written}
 use Rattle.journal.proofs.Puts.{puts-unique}
 use Rattle.words.specs.Words.{formed}
 use Rattle.words.proofs.Values.{value-fits}
@@ -34,7 +35,6 @@ use Rattle.firmware.specs.Claims.{
   RunSaysUnique,
   ShowsUnique,
 }
-use Rattle.firmware.specs.declared.Named.TheVariants.{One, No}
 use Rattle.firmware.proofs.Laws.{at-edition, at_none}
 
 pub halves-tell : HalvesTell
@@ -47,8 +47,8 @@ started e cards blocks = test (sizes cards blocks) (λ e. rw e (omega arith)) (�
 
 started-byte : (e cards blocks : ℕ) → value_of (start_byte e cards blocks).answer < half
 unfolding start_byte by_edition
-started-byte e cards blocks = cond_cases (λ (o : Result). value_of o.answer < half) (eqb e (edition_no Msi)) _ _ (λ _. started Msi cards blocks)
-    (λ _. cond_cases (λ (o : Result). value_of o.answer < half) (eqb e (edition_no Mosi)) _ _ (λ _. started Mosi cards blocks) (λ _. omega arith))
+started-byte e cards blocks = cond_cases (λ (o : Step). value_of o.answer < half) (eqb e (edition_no Msi)) _ _ (λ _. started Msi cards blocks)
+    (λ _. cond_cases (λ (o : Step). value_of o.answer < half) (eqb e (edition_no Mosi)) _ _ (λ _. started Mosi cards blocks) (λ _. omega arith))
 
 pub values-fit : ValuesFit
 values-fit = record {
@@ -79,10 +79,10 @@ reads-unique j p l n m p₁ p₂ l₁ l₂ a b =
     (one_answer _ _ n m a.answer b.answer, one_answer _ _ p₁ p₂ a.after b.after, one_answer _ _ l₁ l₂ a.fields_after b.fields_after)
 
 pub writes-unique : WritesUnique
-writes-unique b p (One one) n m b₁ b₂ p₁ p₂ h k =
+writes-unique b p (Ok one) n m b₁ b₂ p₁ p₂ h k =
     let u = puts-unique b p (bytes_of one) h.0 k.0 b₁ b₂ h.1 k.1 in
     (h.2 ∙ ap (λ (r : Written). written_no r * half) u.0 ∙ sym k.2, u.1, h.3 ∙ ap (place_written p) u.0 ∙ sym k.3)
-writes-unique b p (No d) n m b₁ b₂ p₁ p₂ h k = (one_answer _ _ n m h.0 k.0, one_answer _ _ b₁ b₂ h.1 k.1, one_answer _ _ p₁ p₂ h.2 k.2)
+writes-unique b p (Err d) n m b₁ b₂ p₁ p₂ h k = (one_answer _ _ n m h.0 k.0, one_answer _ _ b₁ b₂ h.1 k.1, one_answer _ _ p₁ p₂ h.2 k.2)
 
 pub run-says-unique : RunSaysUnique
 run-says-unique w j l t n m w₁ w₂ l₁ l₂ t₁ t₂ a b =

@@ -1,7 +1,7 @@
 -- An answer as one number.
 use Rattle.std.specs.Prelude.{ℕ, ◌+◌, ◌*◌, ◌^◌, ◌≡◌}
 use Rattle.rules.specs.Answers.{refusal_of, value_of}
-use Rattle.rules.specs.declared.Answer.{Answer}
+use Rattle.rules.specs.Answers.{Answer}
 
 -- a half of the number
 abbrev pub half : ℕ

@@ -1,10 +1,10 @@
-// Start and the events, on words that C lends: each answers the number of the engine's answer.
+// Start and the events, on words that C lends: each answers the number of the engine's answer. Numbers stand for editions, kinds and
+// refusals, since C hands in any byte, and an export may answer no enum: the C interface.
 ghost use Rattle.rules.specs.declared.Event.TheVariants.{Load, Store, Drop, Ask, Order, Deliver, Copy, Rejoin};
 ghost use Rattle.engine.specs.Promise.{Answers};
 ghost use Rattle.firmware.specs.Editions.{StartsByte};
 ghost use Rattle.firmware.specs.Halves.{Says};
 
-use crate::editions::{MOSI, MSI};
 use crate::halves::one_number;
 use engine::events;
 use engine::start::start_in;
@@ -15,11 +15,10 @@ use words::layout::WORDS;
 pub fn coherence_start(state: &mut [u64; WORDS], edition: u8, cards: u8, blocks: u8) -> u64
     ensures { Says (λ r. StartsByte edition cards blocks r state.new) result }
 {
-    match edition {
-        MSI => one_number(start_in(state, Edition::Msi, cards, blocks)),
-        MOSI => one_number(start_in(state, Edition::Mosi, cards, blocks)),
+    match Edition::try_from(edition) {
+        Ok(edition) => one_number(start_in(state, edition, cards, blocks)),
         // No edition is refused as no cards are.
-        _ => one_number(start_in(state, Edition::Msi, 0, 0)),
+        Err(_) => one_number(start_in(state, Edition::Msi, 0, 0)),
     }
 }
 

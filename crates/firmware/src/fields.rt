@@ -1,125 +1,188 @@
-// A record as seven numbers: its tag, card, block, kind, mask, value and position. What a record has not is 0; an opening's cards,
-// blocks and edition stand in the places of a card, a block and a kind.
-ghost use Rattle.std.specs.Prelude.{◌≡◌, ◌∷◌, []};
-ghost use Rattle.journal.specs.declared.Record.TheVariants.{Opening, Happens};
-ghost use Rattle.journal.specs.declared.Damage.TheVariants.{WrongOpening};
-ghost use Rattle.firmware.specs.declared.Named.TheVariants.{One, No};
-ghost use Rattle.firmware.specs.Editions.{by_edition};
-ghost use Rattle.firmware.specs.Fields.{fields, named};
+// A record as seven numbers: its tag, card, block, kind, mask, value and position. What a record has not is 0; an opening's cards, blocks
+// and edition stand in the places of a card, a block and a kind. Numbers stand for tags, kinds and editions, since C hands in any byte: the C
+// interface.
+ghost use Rattle.std.specs.Prelude.{◌≡◌};
+ghost use Rattle.journal.specs.declared.Record.TheVariants.{Happens};
+ghost use Rattle.journal.specs.Tags.{byte_of};
+ghost use Rattle.firmware.specs.Fields.{fields, tagged, in_order, named_by, opening_by};
 
-use crate::Named;
-use crate::editions::{MOSI, MSI, edition_no};
-use journal::tags::{ASK, COPY, DELIVER, DROP, LOAD, OPENING, ORDER, REJOIN, STORE};
+use journal::tags::Tag;
 use journal::{Damage, Record};
 use rules::{Edition, Event};
 
 // How many numbers a record has.
 pub const FIELDS: usize = 7;
 
-// The numbers of a record.
-pub(crate) fn fields_of(one: Record) -> [u64; FIELDS]
-    ensures { result ≡ fields one }
+// The numbers of a record, by name.
+#[derive(Clone, Copy)]
+pub(crate) struct Fields {
+    pub(crate) tag: u8,
+    pub(crate) card: u8,
+    pub(crate) block: u8,
+    pub(crate) kind: u8,
+    pub(crate) mask: u8,
+    pub(crate) value: u32,
+    pub(crate) position: u8,
+}
+
+// The fields of a tag alone.
+fn tagged(tag: Tag) -> Fields
+    ensures { result ≡ tagged (byte_of tag) }
 {
-    match one {
-        Record::Opening {
-            edition,
-            cards,
-            blocks,
-        } => seven(OPENING, cards, blocks, edition_no(edition), 0, 0, 0),
-        Record::Happens(event) => event_fields(event),
+    Fields {
+        tag: tag.into(),
+        card: 0,
+        block: 0,
+        kind: 0,
+        mask: 0,
+        value: 0,
+        position: 0,
     }
 }
 
-// The numbers of an event's record.
-fn event_fields(event: Event) -> [u64; FIELDS]
-    ensures { result ≡ fields (Happens event) }
-{
-    match event {
-        Event::Load { card, block } => seven(LOAD, card, block, 0, 0, 0, 0),
-        Event::Store { card, block, value } => seven(STORE, card, block, 0, 0, value, 0),
-        Event::Drop { card, block } => seven(DROP, card, block, 0, 0, 0, 0),
-        Event::Ask {
-            card,
-            block,
-            kind,
-            mask,
-        } => seven(ASK, card, block, kind, mask, 0, 0),
-        Event::Order => seven(ORDER, 0, 0, 0, 0, 0, 0),
-        Event::Deliver { position } => seven(DELIVER, 0, 0, 0, 0, 0, position),
-        Event::Copy { position } => seven(COPY, 0, 0, 0, 0, 0, position),
-        Event::Rejoin { card } => seven(REJOIN, card, 0, 0, 0, 0, 0),
+// The numbers in order.
+impl From<Fields> for [u64; FIELDS] {
+    ghost from_gives = { λ given r. r ≡ in_order given };
+
+    fn from(given: Fields) -> [u64; FIELDS] {
+        [
+            given.tag as u64,
+            given.card as u64,
+            given.block as u64,
+            given.kind as u64,
+            given.mask as u64,
+            given.value as u64,
+            given.position as u64,
+        ]
     }
 }
 
-// Seven numbers, as words.
-fn seven(
-    tag: u8,
-    card: u8,
-    block: u8,
-    kind: u8,
-    mask: u8,
-    value: u32,
-    position: u8,
-) -> [u64; FIELDS]
-    ensures { result ≡ tag ∷ card ∷ block ∷ kind ∷ mask ∷ value ∷ position ∷ [] }
-{
-    [
-        tag as u64,
-        card as u64,
-        block as u64,
-        kind as u64,
-        mask as u64,
-        value as u64,
-        position as u64,
-    ]
+impl From<Record> for Fields {
+    ghost from_gives = { λ one r. in_order r ≡ fields one };
+
+    fn from(one: Record) -> Fields {
+        match one {
+            Record::Opening {
+                edition,
+                cards,
+                blocks,
+            } => Fields {
+                card: cards,
+                block: blocks,
+                kind: edition.into(),
+                ..tagged(Tag::Opening)
+            },
+            Record::Happens(event) => event.into(),
+        }
+    }
 }
 
-// The opening of an edition's number.
-fn opening_of(edition: u8, cards: u8, blocks: u8) -> Named
-    ensures { result ≡ by_edition edition (λ e. One (Opening e cards blocks)) (No WrongOpening) }
-{
-    match edition {
-        MSI => Named::One(Record::Opening {
-            edition: Edition::Msi,
-            cards,
-            blocks,
-        }),
-        MOSI => Named::One(Record::Opening {
-            edition: Edition::Mosi,
-            cards,
-            blocks,
-        }),
-        _ => Named::No(Damage::WrongOpening),
+impl From<Event> for Fields {
+    ghost from_gives = { λ event r. in_order r ≡ fields (Happens event) };
+
+    fn from(event: Event) -> Fields {
+        match event {
+            Event::Load { card, block } => Fields {
+                card,
+                block,
+                ..tagged(Tag::Load)
+            },
+            Event::Store { card, block, value } => Fields {
+                card,
+                block,
+                value,
+                ..tagged(Tag::Store)
+            },
+            Event::Drop { card, block } => Fields {
+                card,
+                block,
+                ..tagged(Tag::Drop)
+            },
+            Event::Ask {
+                card,
+                block,
+                kind,
+                mask,
+            } => Fields {
+                card,
+                block,
+                kind,
+                mask,
+                ..tagged(Tag::Ask)
+            },
+            Event::Order => tagged(Tag::Order),
+            Event::Deliver { position } => Fields {
+                position,
+                ..tagged(Tag::Deliver)
+            },
+            Event::Copy { position } => Fields {
+                position,
+                ..tagged(Tag::Copy)
+            },
+            Event::Rejoin { card } => Fields {
+                card,
+                ..tagged(Tag::Rejoin)
+            },
+        }
+    }
+}
+
+// The record that the numbers name.
+impl TryFrom<Fields> for Record {
+    type Error = Damage;
+
+    ghost try_from_gives = { λ given r. r ≡ named_by given.tag given };
+
+    #[tactic(auto, using(crate::proofs::Laws::no_tag))]
+    fn try_from(given: Fields) -> Result<Record, Damage> {
+        record_of(Tag::try_from(given.tag)?, given)
     }
 }
 
 // The record of a tag and the fields that it has.
-pub(crate) fn record_of(
-    tag: u8,
-    card: u8,
-    block: u8,
-    kind: u8,
-    mask: u8,
-    value: u32,
-    position: u8,
-) -> Named
-    ensures { result ≡ named tag card block kind mask value position }
+#[tactic(auto, unfolding(crate::specs::Fields::named))]
+fn record_of(tag: Tag, given: Fields) -> Result<Record, Damage>
+    ensures { result ≡ named_by (byte_of tag) given }
 {
-    match tag {
-        OPENING => opening_of(kind, card, block),
-        LOAD => Named::One(Record::Happens(Event::Load { card, block })),
-        STORE => Named::One(Record::Happens(Event::Store { card, block, value })),
-        ASK => Named::One(Record::Happens(Event::Ask {
+    let Fields {
+        card,
+        block,
+        kind,
+        mask,
+        value,
+        position,
+        ..
+    } = given;
+    let event = match tag {
+        Tag::Opening => return opening(kind, card, block),
+        Tag::Load => Event::Load { card, block },
+        Tag::Store => Event::Store { card, block, value },
+        Tag::Ask => Event::Ask {
             card,
             block,
             kind,
             mask,
-        })),
-        DROP => Named::One(Record::Happens(Event::Drop { card, block })),
-        ORDER => Named::One(Record::Happens(Event::Order)),
-        DELIVER => Named::One(Record::Happens(Event::Deliver { position })),
-        COPY => Named::One(Record::Happens(Event::Copy { position })),
-        REJOIN => Named::One(Record::Happens(Event::Rejoin { card })),
-        _ => Named::No(Damage::UnknownTag),
+        },
+        Tag::Drop => Event::Drop { card, block },
+        Tag::Order => Event::Order,
+        Tag::Deliver => Event::Deliver { position },
+        Tag::Copy => Event::Copy { position },
+        Tag::Rejoin => Event::Rejoin { card },
+    };
+    Ok(Record::Happens(event))
+}
+
+// The opening of an edition's number.
+#[tactic(auto, using(crate::proofs::Laws::opening_named, crate::proofs::Laws::no_opening))]
+fn opening(edition: u8, cards: u8, blocks: u8) -> Result<Record, Damage>
+    ensures { result ≡ opening_by edition cards blocks }
+{
+    match Edition::try_from(edition) {
+        Ok(edition) => Ok(Record::Opening {
+            edition,
+            cards,
+            blocks,
+        }),
+        Err(_) => Err(Damage::WrongOpening),
     }
 }

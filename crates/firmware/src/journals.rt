@@ -1,15 +1,16 @@
-// Journals: one record read, one written, and a run that writes its lines into a text that C lends.
+// Journals: one record read, one written, and a run that writes its lines into a text that C lends. Numbers stand for tags, kinds and
+// refusals, and arrays for what is read and reached: the C interface.
+ghost use Rattle.std.specs.Prelude.{◌≡◌};
 ghost use Rattle.firmware.specs.Fields.{named};
-ghost use Rattle.firmware.specs.Journals.{Reads, Writes, RunSays};
+ghost use Rattle.firmware.specs.Journals.{standing_of, Reads, Writes, RunSays};
 
-use crate::Named;
-use crate::fields::{FIELDS, fields_of, record_of};
+use crate::fields::{FIELDS, Fields};
 use crate::halves::refused;
 use engine::run::{Ran, Reached, run};
+use journal::Record;
 use journal::numbers::{damage_no, refusal_no, written_no};
-use journal::reader::read_on;
+use journal::reader::{ReadOn, read_on};
 use journal::writing::write;
-use journal::{Found, Written};
 use words::layout::WORDS;
 
 // How many numbers say where a run stands: the number and the place of the next record, and how many bytes of text the last piece has.
@@ -19,20 +20,20 @@ pub const STANDING: usize = 3;
 pub fn coherence_read(journal: &[u8], place: &mut usize, fields: &mut [u64; FIELDS]) -> u64
     ensures { Reads journal.now place.old fields.old result place.new fields.new }
 {
-    let read = read_on(journal, *place);
-    let found = read.found;
-    *place = read.at;
+    let ReadOn { found, at } = read_on(journal, *place);
+    *place = at;
     match found {
-        Found::Whole(one, _) => {
-            *fields = fields_of(one);
+        Ok(Some((one, _))) => {
+            *fields = Fields::from(one).into();
             1
         }
-        Found::End => 0,
-        Found::Damaged(damage) => refused(damage_no(damage)),
+        Ok(None) => 0,
+        Err(damage) => refused(damage_no(damage)),
     }
 }
 
-// Writes the record of a tag and its fields at a place, and moves the place behind it. A refusal keeps the place and the buffer.
+// Writes the record of a tag and its fields at a place, and moves the place behind it. A refusal keeps the place and the buffer. C hands in
+// each field by itself, in its own width, so that none can be out of range: hence nine parameters.
 pub fn coherence_write(
     buffer: &mut [u8],
     place: &mut usize,
@@ -47,17 +48,22 @@ pub fn coherence_write(
     ensures { Writes buffer.old place.old (named tag card block kind mask value position) result
         buffer.new place.new }
 {
-    match record_of(tag, card, block, kind, mask, value, position) {
-        Named::No(damage) => refused(damage_no(damage)),
-        Named::One(one) => {
-            let written = write(buffer, *place, one);
-            let Written::UpTo(next) = written else {
-                return refused(written_no(written));
-            };
-            *place = next;
-            0
-        }
-    }
+    let given = Fields {
+        tag,
+        card,
+        block,
+        kind,
+        mask,
+        value,
+        position,
+    };
+    let one = match Record::try_from(given) {
+        Ok(one) => one,
+        Err(damage) => return refused(damage_no(damage)),
+    };
+    let written = write(buffer, *place, one);
+    *place = written.unwrap_or(*place);
+    refused(written_no(written))
 }
 
 // Runs over a journal from where a run stands, into a text: one piece, after which there may be more.
@@ -75,14 +81,24 @@ pub fn coherence_run(
         place: standing[1] as usize,
     };
     match run(state, journal, reached, text) {
-        Ran::More(next, count) => {
-            *standing = [next.number as u64, next.place as u64, count as u64];
-            1
+        Ok(ran) => {
+            *standing = standing_of(ran);
+            match ran {
+                Ran::More(..) => 1,
+                Ran::Over(..) => 0,
+            }
         }
-        Ran::Over(last, count) => {
-            *standing = [last.number as u64, last.place as u64, count as u64];
-            0
+        Err(refusal) => refused(refusal_no(refusal)),
+    }
+}
+
+// Where a run stands after a piece, in numbers.
+fn standing_of(ran: Ran) -> [u64; STANDING]
+    ensures { result ≡ standing_of ran }
+{
+    match ran {
+        Ran::More(at, count) | Ran::Over(at, count) => {
+            [at.number as u64, at.place as u64, count as u64]
         }
-        Ran::Refused(refusal) => refused(refusal_no(refusal)),
     }
 }

@@ -3,7 +3,6 @@
 #![tactic(auto)]
 
 pub mod chassis;
-mod editions;
 mod fields;
 mod halves;
 pub mod journals;
@@ -11,11 +10,3 @@ pub mod looks;
 pub mod version;
 
 pub use fields::FIELDS;
-use journal::{Damage, Record};
-
-// The record that numbers name, or why they name none.
-#[derive(Clone, Copy)]
-pub enum Named {
-    One(Record),
-    No(Damage),
-}

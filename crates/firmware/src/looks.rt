@@ -1,69 +1,62 @@
-// Looking at a chassis: what is seen comes out as numbers, in what C lends for them.
+// Looking at a chassis: what is seen comes out as numbers, in what C lends for them; numbers stand for editions, kinds and refusals, too: the
+// C interface.
 ghost use Rattle.std.specs.Prelude.{◌≡◌};
 ghost use Rattle.engine.specs.Looking.{counts, message, request, cell, home};
-ghost use Rattle.firmware.specs.Looks.{seen_number, seen_after, Shows};
+ghost use Rattle.firmware.specs.Looks.{seen_number, seen_numbers, seen_after, Shows};
 
-use crate::editions::edition_no;
 use crate::halves::refused;
 use engine::{Seen, looks};
 use journal::numbers::refusal_no;
+use rules::Refusal;
 use words::layout::WORDS;
 
 // How many numbers a look shows.
 pub const SEEN: usize = 6;
 
-// What is seen, in numbers; a refusal keeps those that there were.
-fn show(what: Seen, seen: &mut [u64; SEEN]) -> u64
+// The numbers of what is seen.
+fn numbers_of(what: Seen) -> [u64; SEEN]
+    ensures { result ≡ seen_numbers what }
+{
+    match what {
+        Seen::Counts(n) => [
+            u8::from(n.edition) as u64,
+            n.cards,
+            n.blocks,
+            n.waiting,
+            n.pooled,
+            n.last.0,
+        ],
+        Seen::Message(m) => [
+            m.sender as u64,
+            m.receiver as u64,
+            m.block as u64,
+            m.value as u64,
+            m.number.0,
+            0,
+        ],
+        Seen::Request(r) => [
+            r.card as u64,
+            r.block as u64,
+            r.kind as u64,
+            r.mask as u64,
+            r.retry.0 as u64,
+            0,
+        ],
+        Seen::Cell(x) => [x.state as u64, x.value as u64, x.awaits.0, 0, 0, 0],
+        Seen::Home(h) => [h.memory as u64, h.owner as u64, h.sharers as u64, 0, 0, 0],
+    }
+}
+
+// Lends the numbers of what is seen; a refusal keeps those that there were.
+fn show(what: Result<Seen, Refusal>, seen: &mut [u64; SEEN]) -> u64
     ensures { (result ≡ seen_number what) × (seen.new ≡ seen_after seen.old what) }
 {
     match what {
-        Seen::Counts(n) => {
-            let edition = n.edition;
-            let last = n.last;
-            *seen = [
-                edition_no(edition) as u64,
-                n.cards,
-                n.blocks,
-                n.waiting,
-                n.pooled,
-                last.0,
-            ];
+        Ok(one) => {
+            *seen = numbers_of(one);
             0
         }
-        Seen::Message(m) => {
-            let number = m.number;
-            *seen = [
-                m.sender as u64,
-                m.receiver as u64,
-                m.block as u64,
-                m.value as u64,
-                number.0,
-                0,
-            ];
-            0
-        }
-        Seen::Request(r) => {
-            let retry = r.retry;
-            *seen = [
-                r.card as u64,
-                r.block as u64,
-                r.kind as u64,
-                r.mask as u64,
-                retry.0 as u64,
-                0,
-            ];
-            0
-        }
-        Seen::Cell(x) => {
-            let awaits = x.awaits;
-            *seen = [x.state as u64, x.value as u64, awaits.0, 0, 0, 0];
-            0
-        }
-        Seen::Home(h) => {
-            *seen = [h.memory as u64, h.owner as u64, h.sharers as u64, 0, 0, 0];
-            0
-        }
-        Seen::Refused(refusal) => refused(refusal_no(refusal)),
+        Err(refusal) => refused(refusal_no(refusal)),
     }
 }
 

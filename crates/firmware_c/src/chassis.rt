@@ -1,4 +1,5 @@
-// Start and the events, on words that C lends: each answers the number of the engine's answer.
+// Start and the events, on words that C lends: each answers the number of the engine's answer. Numbers stand for kinds and refusals: the C
+// interface.
 ghost use Rattle.rules.specs.declared.Event.TheVariants.{Load, Store, Drop, Ask, Order, Deliver, Copy, Rejoin};
 ghost use Rattle.engine.specs.Promise.{Answers};
 ghost use Rattle.firmware.specs.Editions.{StartsByte};

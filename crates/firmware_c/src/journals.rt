@@ -1,4 +1,5 @@
-// Journals: one record read, one written, and a run that writes its lines into a text that C lends.
+// Journals: one record read, one written, and a run that writes its lines into a text that C lends. Numbers stand for kinds and refusals: the C
+// interface.
 ghost use Rattle.firmware.specs.Fields.{named};
 ghost use Rattle.firmware.specs.Journals.{Reads, Writes, RunSays};
 

@@ -1,4 +1,5 @@
-// Looking at a chassis: what is seen comes out as numbers, in what C lends for them.
+// Looking at a chassis: what is seen comes out as numbers, in what C lends for them. Numbers stand for kinds and refusals: the C
+// interface.
 ghost use Rattle.engine.specs.Looking.{counts, message, request, cell, home};
 ghost use Rattle.firmware.specs.Looks.{Shows};
 

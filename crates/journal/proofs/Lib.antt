@@ -1,10 +1,8 @@
 pub mod Parts
 pub mod Tagged
-pub mod Front
+pub mod EachTag
 pub mod Puts
-pub mod Spelled
 pub mod Digits
-pub mod Held
 pub mod BigEndian
 pub mod Claims
 pub mod Pieces

@@ -1,11 +1,13 @@
 // Replays each journal that an argument names: its name, and then its lines.
 #![tactic(auto)]
 
-use bench::{JOURNAL_ROOM, Replayed, replay};
+use arrayvec::ArrayString;
+use bench::{JOURNAL_ROOM, ReplayError, replay};
 use std::env::{Env, FillError};
+use std::fmt::Write as _;
 use std::fs::File;
 use std::io;
-use std::io::{Cursor, ErrorKind, Read, Write};
+use std::io::{ErrorKind, Read, Write};
 
 // The room for an argument, and the room for what the system says of an error.
 const PATH_ROOM: usize = 4096;
@@ -15,7 +17,8 @@ const REASON_ROOM: usize = 512;
 // The system's number for a name that is too long: ENAMETOOLONG.
 const NAME_TOO_LONG: i32 = 36;
 
-// A reader or a writer that keeps why its last call failed, since a replay tells only that one did.
+// A reader or a writer that keeps why its last call failed. A replay tells only that one did, so that what was moved decides its answer
+// (`ReplaysUnique.answer`).
 #[derive(Drop)]
 struct Told<T> {
     stream: T,
@@ -48,6 +51,7 @@ impl<W: Write> Write for Told<W> {
 
 fn main(rt: HostRuntime) {
     let mut path = [0u8; PATH_ROOM];
+    // std's iterator over the arguments allocates.
     for i in 1..usize::MAX {
         match rt.arg(i, &mut path) {
             Ok(length) => play(&rt, &path[..length]),
@@ -70,9 +74,10 @@ fn play(rt: &HostRuntime, path: &[u8]) {
 
 // The same, with why it failed.
 fn try_play(rt: &HostRuntime, path: &[u8]) -> io::Result<()> {
-    let Ok(name) = str::from_utf8(path) else {
-        return Err(io::Error::new(ErrorKind::InvalidInput, "the name is not UTF-8"));
-    };
+    let name = str::from_utf8(path).map_err(|_| io::Error::new(
+        ErrorKind::InvalidInput,
+        "the name is not UTF-8",
+    ))?;
     let mut from = Told {
         stream: File::open(rt, name)?,
         error: None,
@@ -86,9 +91,9 @@ fn try_play(rt: &HostRuntime, path: &[u8]) -> io::Result<()> {
     let _ = to.stream.write_all(b"\n");
     let mut journal = [0u8; JOURNAL_ROOM];
     match replay(&mut from, &mut to, &mut journal) {
-        Replayed::Whole { read: _, taken: _ } => Ok(()),
-        Replayed::NotRead => Err(from.error.unwrap_or(io::Error::from(ErrorKind::Other))),
-        Replayed::NotWritten { read: _, taken: _ } => Err(
+        Ok(_) => Ok(()),
+        Err(ReplayError::NotRead) => Err(from.error.unwrap_or(io::Error::from(ErrorKind::Other))),
+        Err(ReplayError::NotWritten(_)) => Err(
             to.error.unwrap_or(io::Error::from(ErrorKind::WriteZero)),
         ),
     }
@@ -96,22 +101,13 @@ fn try_play(rt: &HostRuntime, path: &[u8]) -> io::Result<()> {
 
 // Tells on standard error what failed, and why: in the system's words, without the number that `io::Error` puts behind them.
 fn fail(rt: &HostRuntime, what: &[u8], error: io::Error) {
-    let mut said = Cursor::new([0u8; REASON_ROOM]);
+    let mut said = ArrayString::<REASON_ROOM>::new();
     let _ = write!(said, "{error}");
-    let said = said.into_inner();
-    let reason = front(
-        front(str::from_utf8(&said).unwrap_or(""), "\0"),
-        " (os error ",
-    );
+    let said = said.as_str();
+    let reason = said
+        .split_once(" (os error ")
+        .map_or(said, |(words, _)| words);
     let mut to = rt.stderr();
     let _ = to.write_all(what);
     let _ = writeln!(to, ": {reason}");
-}
-
-// The text before a mark, or all of it where it has none.
-fn front<'a>(text: &'a str, mark: &str) -> &'a str {
-    match text.split_once(mark) {
-        Some((before, _)) => before,
-        None => text,
-    }
 }

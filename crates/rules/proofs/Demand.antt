@@ -1,4 +1,5 @@
 -- Demand 3: every run from an accepted Start is coherent.
+use Rattle.std.specs.Prelude.{Err, Ok}
 use Prim.Native.Nat.{ℕ, ◌≤◌}
 use native.Mathlib.Omega.{arith}
 use mathlib.Core.Bool.{true, not, ◌||◌, true≢false}
@@ -12,7 +13,7 @@ use Rattle.rules.specs.Lists.{All}
 use Rattle.rules.specs.Numbers.{home, granted, put_taken}
 use Rattle.rules.specs.Table.{loads, stores}
 use Rattle.rules.specs.Chassis.{Chassis, cell_of, state_of, fresh}
-use Rattle.rules.specs.Answers.{refusal_no, Result, NoneHolds}
+use Rattle.rules.specs.Answers.{refusal_no, Step, NoneHolds}
 use Rattle.rules.specs.Order.{order_reasons}
 use Rattle.rules.specs.Formed.{well_formed}
 use Rattle.rules.specs.Events.{no_card, no_block, right_reasons, no_message, reasons, effect, step}
@@ -21,8 +22,7 @@ use Rattle.rules.specs.Demand.{Coherent}
 use Rattle.rules.specs.Claims.{RulesCoherent}
 use Rattle.rules.specs.declared.Edition.{Edition}
 use Rattle.rules.specs.declared.Request.{Request}
-use Rattle.rules.specs.declared.Answer.{Answer}
-use Rattle.rules.specs.declared.Answer.TheVariants.{Done, Refused}
+use Rattle.rules.specs.Answers.{Answer}
 use Rattle.rules.specs.declared.Refusal.TheVariants.{Impossible, IllFormed}
 use Rattle.rules.specs.declared.Event.{Event}
 use Rattle.rules.specs.declared.Event.TheVariants.{
@@ -90,8 +90,8 @@ module _ {c : Chassis} {log : List Did} (inv : Inv c log) where
   -- an accepted event that is no load
   other-ok : (e : Event) → ((v : ℕ) → LoadOk log (did_accepted c e v)) → (a : Answer) → LoadOk log (did c e a)
   unfolding did
-  other-ok e h (Done v) = h v
-  other-ok e h (Refused r) = tt
+  other-ok e h (Ok v) = h v
+  other-ok e h (Err r) = tt
 
   effect-loads : (e : Event) → NoneHolds (reasons c e) → LoadOk log (did c e (effect c e).answer)
   unfolding reasons right_reasons effect did did_accepted
@@ -107,7 +107,7 @@ module _ {c : Chassis} {log : List Did} (inv : Inv c log) where
 
   step-loads : (e : Event) → LoadOk log (did c e (step c e).answer)
   unfolding step did
-  step-loads e = refused-cases c (λ (o : Result). LoadOk log (did c e o.answer)) _ (effect c e) (λ _. tt) (λ h. effect-loads e h.1)
+  step-loads e = refused-cases c (λ (o : Step). LoadOk log (did c e o.answer)) _ (effect c e) (λ _. tt) (λ h. effect-loads e h.1)
 
   -- 13 is never given
   order-never : (l : List Request) → c.line ≡ l → Never (refusal_no Impossible) (order_reasons c l)
@@ -132,7 +132,7 @@ module _ {c : Chassis} {log : List Did} (inv : Inv c log) where
   reasons-never (Copy i) = never-listed 13 _ refl
   reasons-never (Rejoin k) = never-listed 13 _ refl
 
-  never_impossible : (e : Event) → (step c e).answer ≢ Refused Impossible
+  never_impossible : (e : Event) → (step c e).answer ≢ Err Impossible
   unfolding step
   never_impossible e = never-given c Impossible _ (effect c e)
       (never_first 13 _ _ (λ _. omega arith) (λ _. reasons-never e)) (effect-done c e)
@@ -154,17 +154,17 @@ reasons-formed c (Deliver i) = never-listed 15 _ refl
 reasons-formed c (Copy i) = never-listed 15 _ refl
 reasons-formed c (Rejoin k) = never-listed 15 _ refl
 
-never_ill_formed : (c : Chassis) → well_formed c ≡ true → (e : Event) → (step c e).answer ≢ Refused IllFormed
+never_ill_formed : (c : Chassis) → well_formed c ≡ true → (e : Event) → (step c e).answer ≢ Err IllFormed
 unfolding step
 never_ill_formed c w e = never-given c IllFormed _ (effect c e)
     (never_first 15 _ _ (λ p _. true≢false (sym p ∙ ap not w)) (λ _. reasons-formed c e)) (effect-done c e)
 
 -- a load or a store that would be accepted has its right
-load-right : (c : Chassis) (k b x : ℕ) → (step c (Load k b)).answer ≡ Done x → loads (state_of c k b) ≡ true
+load-right : (c : Chassis) (k b x : ℕ) → (step c (Load k b)).answer ≡ Ok x → loads (state_of c k b) ≡ true
 unfolding reasons right_reasons
 load-right c k b x h = not-false (loads (state_of c k b)) (accepted-none c (Load k b) x h).1.1.0
 
-store-right : (c : Chassis) (k b v x : ℕ) → (step c (Store k b v)).answer ≡ Done x → stores (state_of c k b) ≡ true
+store-right : (c : Chassis) (k b v x : ℕ) → (step c (Store k b v)).answer ≡ Ok x → stores (state_of c k b) ≡ true
 unfolding reasons right_reasons
 store-right c k b v x h = not-false (stores (state_of c k b)) (accepted-none c (Store k b v) x h).1.1.0
 
@@ -201,7 +201,7 @@ coherent r g = record {
 
 pub rules-coherent : RulesCoherent
 rules-coherent e cards blocks v = start-cases e cards blocks
-    (λ o. o.answer ≡ Done v → (es : List Event) → Coherent (run o.after es))
+    (λ o. o.answer ≡ Ok v → (es : List Event) → Coherent (run o.after es))
     (λ h _ es. coherent _ (run-good (fresh e cards blocks)
     (fresh_ok e cards blocks (let f = (sizes→ cards blocks h).few-cards in omega arith)) (fresh-formed e cards blocks h) es))
     (λ r f. absurd (refused≢done r v f))

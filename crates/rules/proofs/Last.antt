@@ -5,7 +5,7 @@ use mathlib.Core.List.{List, [], ◌∷◌}
 use borrow.Author.Tests.{leb-false}
 use Rattle.rules.specs.Numbers.{last_number}
 use Rattle.rules.specs.Chassis.{Chassis, message_of}
-use Rattle.rules.specs.Answers.{Result, NoneHolds}
+use Rattle.rules.specs.Answers.{Step, NoneHolds}
 use Rattle.rules.specs.Order.{order_reasons, order_head, order}
 use Rattle.rules.specs.Events.{reasons, ask, live, deliver, rejoin, effect, step}
 use Rattle.rules.specs.Claims.{NeverSetBack}
@@ -25,7 +25,7 @@ use Rattle.rules.proofs.Tests.{cond_cases}
 use Rattle.rules.proofs.Refusals.{refused-cases}
 
 module _ (c : Chassis) (wide : c.last.0 ≤ last_number.0) where
-  abbrev Rises : Result → Type 0
+  abbrev Rises : Step → Type 0
   Rises o = (c.last.0 ≤ o.after.last.0) × (o.after.last.0 ≤ last_number.0)
 
   stays : (c.last.0 ≤ c.last.0) × (c.last.0 ≤ last_number.0)

@@ -45,7 +45,7 @@ use Rattle.rules.specs.Chassis.{
   cell_changed,
   pool_changed,
 }
-use Rattle.rules.specs.Answers.{Result, NoneHolds}
+use Rattle.rules.specs.Answers.{Step, NoneHolds}
 use Rattle.rules.specs.Order.{
   held,
   impossible,
@@ -252,7 +252,7 @@ module _ {c : Chassis} (w : Wf c) where
       let mok = message→ c.cards c.blocks c.last m (All-at P c.pool i _ l w.messages) in
       let p = removed i c.pool in
       let short : length p ≤ room = let a = removed-short i c.pool in let b = w.pool_room in omega arith in
-      cond_cases (λ (o : Result). Wf o.after) (live (c.block b) m) _ _
+      cond_cases (λ (o : Step). Wf o.after) (live (c.block b) m) _ _
       (λ e. let wt = live-waits (c.block b) m e in
       let at = (place_at k b mok.receiver mok.block).code in
       let t = filled x.state (in-states c.edition x.state at) wt in
@@ -460,5 +460,5 @@ module _ {c : Chassis} (w : Wf c) where
 
 pub stays-formed : StaysFormed
 unfolding step
-stays-formed c e h = refused-cases c (λ (o : Result). well_formed o.after ≡ true) _ (effect c e)
+stays-formed c e h = refused-cases c (λ (o : Step). well_formed o.after ≡ true) _ (effect c e)
     (λ _. h) (λ g. →wf (effect c e).after (effect-wf (wf→ c h) e g.1))

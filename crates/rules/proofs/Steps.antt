@@ -1,4 +1,5 @@
 -- Every event keeps the invariant.
+use Rattle.std.specs.Prelude.{Ok}
 use Prim.Native.Nat.{ℕ, ◌≤◌, ◌<◌}
 use native.Mathlib.Omega.{arith}
 use mathlib.Core.Bool.{Bool, true, false, cond, not, ◌&&◌, true≢false}
@@ -26,7 +27,7 @@ use Rattle.rules.specs.Chassis.{
   cell_changed,
   pool_changed,
 }
-use Rattle.rules.specs.Answers.{Result, result, NoneHolds}
+use Rattle.rules.specs.Answers.{Step, result, NoneHolds}
 use Rattle.rules.specs.Order.{held, order_reasons, upshot_of, sees, ordered, data_for, retried, order_head, order}
 use Rattle.rules.specs.Events.{
   no_card,
@@ -49,7 +50,6 @@ use Rattle.rules.specs.declared.Cell.{Cell}
 use Rattle.rules.specs.declared.Turn.{Turn}
 use Rattle.rules.specs.declared.Request.{Request}
 use Rattle.rules.specs.declared.Message.{Message}
-use Rattle.rules.specs.declared.Answer.TheVariants.{Done}
 use Rattle.rules.specs.declared.Event.{Event}
 use Rattle.rules.specs.declared.Event.TheVariants.{
   Load,
@@ -248,7 +248,7 @@ module _ {c : Chassis} {log : List Did} (inv : Inv c log) where
       (distinct_snoc c.line r inv.distinct free)
 
   -- an outcome keeps the invariant
-  abbrev pub Keeps : Event → Result → Type 0
+  abbrev pub Keeps : Event → Step → Type 0
   Keeps e o = Inv o.after (did c e o.answer ∷ log)
 
   deliver-ok : (i : ℕ) → i < length c.pool → Keeps (Deliver i) (deliver c i (message_of c i))
@@ -396,8 +396,8 @@ module _ {c : Chassis} {log : List Did} (inv : Inv c log) where
     asker-stays t o = rw (eq-eqb r.card r.card refl, (by-outcome t).asker Next (Head.cell r.card), o)
 
     -- what the turn leaves of the chassis
-    abbrev At : Turn → Result
-    At t = result (Done (upshot_of t).outcome)
+    abbrev At : Turn → Step
+    At t = result (Ok (upshot_of t).outcome)
         (changed c r.block (After t) (rest ++ (upshot_of t).again c.cards Head r) (c.pool ++ (upshot_of t).sent Head r Next) Next)
 
     -- with what its outcome says of the line and the pool

@@ -2,15 +2,11 @@
 use Prim.Native.Nat.{ℕ, ◌≤◌}
 use native.Mathlib.Omega.{arith}
 use mathlib.Core.Bool.{true, false, cond, ◌||◌}
-use mathlib.Core.List.{List, [], ◌∷◌, map}
-use mathlib.Core.Path.{◌≡◌, refl, sym, ◌∙◌, ap, subst}
-use mathlib.Core.Logic.{◌≢◌, inl, inr}
-use lib.ListN.{get_or}
+use mathlib.Core.List.{[], ◌∷◌}
+use mathlib.Core.Path.{◌≡◌, refl, sym, ◌∙◌, subst}
+use mathlib.Core.Logic.{◌≢◌}
 use lib.Dec.{eqb}
-use denote.Enum.Declared.{tag_of}
-use types.Run.{OneOf}
 use borrow.Author.Tests.{eqb-true, eqb-false}
-use Rattle.rules.specs.Lists.{All}
 use Rattle.rules.specs.Masks.{has, only, union}
 use Rattle.rules.specs.Mask.{suffices}
 use Rattle.rules.specs.Numbers.{home, gets, putx, granted, too_small, put_taken, put_lapsed}
@@ -28,7 +24,6 @@ use Rattle.rules.specs.Order.{
   sees,
 }
 use Rattle.rules.specs.declared.Edition.{Edition}
-use Rattle.rules.specs.declared.Edition.TheVariants.{Msi}
 use Rattle.rules.specs.declared.OrderNo.{OrderNo}
 use Rattle.rules.specs.declared.Cell.{Cell}
 use Rattle.rules.specs.declared.Request.{Request}
@@ -41,7 +36,6 @@ use Rattle.rules.specs.declared.Turn.TheVariants.{
   PutTaken,
   PutLapsed,
 }
-use Rattle.rules.specs.contracts.Turn.{the_type}
 use Rattle.rules.proofs.Tests.{test, cond_cases, or_l}
 use Rattle.rules.proofs.States.{Column, gets-column, getx-column}
 
@@ -196,95 +190,3 @@ pub cell-sees : (e : Edition) (P : Cell → Type 0) (t : Turn) → In e t → (B
     → (r.card ≡ k → P ((upshot_of t).asker_sees n (B.cell k))) → Sees e P (B.cell k) (sees t B r n k)
 cell-sees e P t h B r n k asker same moves = sees-cases P t B r n k asker
     (λ _ _. owner-sees e P t h (B.cell k) same moves) (λ _ _ _. reader-sees e P t (B.cell k) same moves) (λ _ _ _. same)
-
--- An arm of a `match` knows a turn as one of some
-
--- the turns in the order of their numbers, a granted GETS in some edition
-abbrev turns : List Turn
-turns = GetsGranted Msi ∷ GetxGranted ∷ GetsMissed ∷ GetxMissed ∷ PutTaken ∷ PutLapsed ∷ []
-
-abbrev turn_no : Turn → ℕ
-turn_no t = tag_of the_type t
-
--- the same turn, where its edition is this one; its edition
-abbrev of_edition : Edition → Turn → Turn
-of_edition e (GetsGranted e') = GetsGranted e
-of_edition e GetxGranted = GetxGranted
-of_edition e GetsMissed = GetsMissed
-of_edition e GetxMissed = GetxMissed
-of_edition e PutTaken = PutTaken
-of_edition e PutLapsed = PutLapsed
-
-abbrev its_edition : Turn → Edition
-its_edition (GetsGranted e) = e
-its_edition GetxGranted = Msi
-its_edition GetsMissed = Msi
-its_edition GetxMissed = Msi
-its_edition PutTaken = Msi
-its_edition PutLapsed = Msi
-
-numbered : (e : Edition) (t : Turn) → of_edition e (get_or turns (turn_no t) PutLapsed) ≡ of_edition e t
-numbered e (GetsGranted e') = refl
-numbered e GetxGranted = refl
-numbered e GetsMissed = refl
-numbered e GetxMissed = refl
-numbered e PutTaken = refl
-numbered e PutLapsed = refl
-
-itself : (t : Turn) → of_edition (its_edition t) t ≡ t
-itself (GetsGranted e) = refl
-itself GetxGranted = refl
-itself GetsMissed = refl
-itself GetxMissed = refl
-itself PutTaken = refl
-itself PutLapsed = refl
-
-same-turn_no : (t u : Turn) → turn_no t ≡ turn_no u → of_edition (its_edition t) u ≡ t
-same-turn_no t u e =
-    let k = its_edition t in
-    sym (numbered k u) ∙ ap (λ n. of_edition k (get_or turns n PutLapsed)) (sym e) ∙ numbered k t ∙ itself t
-
--- the turn is one of these, whatever its edition
-abbrev Among : List Turn → Turn → Type 0
-Among ts t = OneOf (map turn_no ts) (turn_no t)
-
--- what holds of them in each edition holds of it
-among : (P : Turn → Type 0) (t : Turn) (ts : List Turn) → Among ts t → All (λ u. (e : Edition) → P (of_edition e u)) ts → P t
-among P t [] k h = absurd k
-among P t (u ∷ []) k h = subst P (same-turn_no t u k) (h.0 (its_edition t))
-among P t (u ∷ v ∷ ts) (inl e) h = subst P (same-turn_no t u e) (h.0 (its_edition t))
-among P t (u ∷ v ∷ ts) (inr k) h = among P t (v ∷ ts) k h.1
-
--- a grant; a mask that was too small
-pub arm-granted : (t : Turn) → Among (GetsGranted Msi ∷ GetxGranted ∷ []) t → granted ≡ (upshot_of t).outcome
-unfolding upshot_of
-arm-granted t k = among (λ t. granted ≡ (upshot_of t).outcome) t (GetsGranted Msi ∷ GetxGranted ∷ []) k ((λ _. refl), ((λ _. refl), tt))
-
-pub arm-missed : (t : Turn) → Among (GetsMissed ∷ GetxMissed ∷ []) t → too_small ≡ (upshot_of t).outcome
-unfolding upshot_of
-arm-missed t k = among (λ t. too_small ≡ (upshot_of t).outcome) t (GetsMissed ∷ GetxMissed ∷ []) k ((λ _. refl), ((λ _. refl), tt))
-
--- home's part stays, where nothing is granted or taken
-pub arm-home : (t : Turn) (B : Block) (q : ℕ) → Among (GetsMissed ∷ GetxMissed ∷ PutLapsed ∷ []) t
-    → ((upshot_of t).memory B q ≡ B.memory) × ((upshot_of t).owner B q ≡ B.owner) × ((upshot_of t).sharers B q ≡ B.sharers)
-unfolding upshot_of
-arm-home t B q k = among
-    (λ t. ((upshot_of t).memory B q ≡ B.memory) × ((upshot_of t).owner B q ≡ B.owner) × ((upshot_of t).sharers B q ≡ B.sharers)) t
-    (GetsMissed ∷ GetxMissed ∷ PutLapsed ∷ []) k ((λ _. (refl, refl, refl)), ((λ _. (refl, refl, refl)), ((λ _. (refl, refl, refl)), tt)))
-
--- the owner stays, where nothing is granted
-pub arm-owner : (t : Turn) (x : Cell) → Among (GetsMissed ∷ GetxMissed ∷ PutTaken ∷ PutLapsed ∷ []) t → x ≡ (upshot_of t).owner_sees x
-unfolding upshot_of
-arm-owner t x k = among (λ t. x ≡ (upshot_of t).owner_sees x) t (GetsMissed ∷ GetxMissed ∷ PutTaken ∷ PutLapsed ∷ []) k
-    ((λ _. refl), ((λ _. refl), ((λ _. refl), ((λ _. refl), tt))))
-
--- the readers see a GETX, and stay at all else
-pub arm-reads : (t : Turn) (x y : Cell) → Among (GetxGranted ∷ GetxMissed ∷ []) t
-    → y ≡ cond (is_reader x.state) (goes (sees_getx x.state) x) x → y ≡ (upshot_of t).reader_sees x
-unfolding upshot_of
-arm-reads t x y k e = among (λ t. y ≡ (upshot_of t).reader_sees x) t (GetxGranted ∷ GetxMissed ∷ []) k ((λ _. e), ((λ _. e), tt))
-
-pub arm-reader : (t : Turn) (x : Cell) → Among (GetsGranted Msi ∷ GetsMissed ∷ PutTaken ∷ PutLapsed ∷ []) t → x ≡ (upshot_of t).reader_sees x
-unfolding upshot_of
-arm-reader t x k = among (λ t. x ≡ (upshot_of t).reader_sees x) t (GetsGranted Msi ∷ GetsMissed ∷ PutTaken ∷ PutLapsed ∷ []) k
-    ((λ _. refl), ((λ _. refl), ((λ _. refl), ((λ _. refl), tt))))

@@ -1,8 +1,6 @@
 -- "Numbers the engine says no with": the paper's refusal number and value for each answer.
-use Rattle.std.specs.Prelude.{ℕ, Bool, true, false, cond, List, [], ◌∷◌, ◌≡◌, ◌⊎◌}
+use Rattle.std.specs.Prelude.{Err, Ok, ℕ, Bool, true, false, cond, List, [], ◌∷◌, ◌≡◌, ◌⊎◌, Result}
 use Rattle.rules.specs.Chassis.{Chassis}
-use Rattle.rules.specs.declared.Answer.{Answer}
-use Rattle.rules.specs.declared.Answer.TheVariants.{Done, Refused}
 use Rattle.rules.specs.declared.Refusal.{Refusal}
 use Rattle.rules.specs.declared.Refusal.TheVariants.{
   NoSuchCard,
@@ -40,22 +38,26 @@ refusal_no Impossible = 13
 refusal_no NoSuchSize = 14
 refusal_no IllFormed = 15
 
+-- what an event answers: a value, or a refusal
+abbrev pub Answer : Type 0
+Answer = Result ℕ Refusal
+
 -- "the refusal or 0"
 abbrev pub refusal_of : Answer → ℕ
-refusal_of (Done v) = 0
-refusal_of (Refused r) = refusal_no r
+refusal_of (Ok v) = 0
+refusal_of (Err r) = refusal_no r
 
 -- "the value (a load's, an outcome, else 0)"; "An engine refusal answers value 0"
 abbrev pub value_of : Answer → ℕ
-value_of (Done v) = v
-value_of (Refused r) = 0
+value_of (Ok v) = v
+value_of (Err r) = 0
 
 -- an event's answer, and the chassis after it
-pub record Result : Type 0 where
+pub record Step : Type 0 where
   pub answer : Answer
   pub after : Chassis
 
-abbrev pub result : Answer → Chassis → Result
+abbrev pub result : Answer → Chassis → Step
 result a c = record { answer = a; after = c }
 
 -- a refusal, and when it is given
@@ -68,9 +70,9 @@ abbrev pub ◌if◌ : Refusal → Bool → Reason
 r if t = record { why = r; holds = t }
 
 -- the first reason that holds refuses "and keeps the state"; where none does, the event is done
-unfoldable pub refused_by : Chassis → List Reason → Result → Result
+unfoldable pub refused_by : Chassis → List Reason → Step → Step
 refused_by c [] done = done
-refused_by c (r ∷ rs) done = cond r.holds (result (Refused r.why) c) (refused_by c rs done)
+refused_by c (r ∷ rs) done = cond r.holds (result (Err r.why) c) (refused_by c rs done)
 
 -- x is the first of the reasons that hold; none of them holds
 abbrev pub FirstHolds : List Reason → Refusal → Type 0

@@ -1,5 +1,5 @@
 -- Demand 3, sentence by sentence; its last field says of 15 what the demand says of 13.
-use Rattle.std.specs.Prelude.{ℕ, List, [], ◌∷◌, ◌++◌, ◌≡◌, ◌≢◌, length}
+use Rattle.std.specs.Prelude.{Err, Ok, ℕ, List, [], ◌∷◌, ◌++◌, ◌≡◌, ◌≢◌, length}
 use Rattle.rules.specs.Lists.{All}
 use Rattle.rules.specs.Events.{step}
 use Rattle.rules.specs.History.{
@@ -15,7 +15,6 @@ use Rattle.rules.specs.History.{
   last_store,
   stories,
 }
-use Rattle.rules.specs.declared.Answer.TheVariants.{Done, Refused}
 use Rattle.rules.specs.declared.Refusal.TheVariants.{Impossible, IllFormed}
 use Rattle.rules.specs.declared.Event.{Event}
 use Rattle.rules.specs.declared.Event.TheVariants.{Load, Store}
@@ -53,9 +52,9 @@ pub record Coherent (r : Run) : Type 0 where
   -- "no other card ever loaded one": not before it was struck; and after, a load returns another store, by loads_last
   pub struck_unseen : All (λ w. w.fate ≡ struck → All (λ k. k ≡ w.card) w.loaders) (stories r.log)
   -- "While one card may store to a block, no other card may load or store it"
-  pub one_storer : (j k b v u x y : ℕ) → j ≢ k → (step r.now (Store j b v)).answer ≡ Done x
-      → ((step r.now (Load k b)).answer ≢ Done y) × ((step r.now (Store k b u)).answer ≢ Done y)
+  pub one_storer : (j k b v u x y : ℕ) → j ≢ k → (step r.now (Store j b v)).answer ≡ Ok x
+      → ((step r.now (Load k b)).answer ≢ Ok y) × ((step r.now (Store k b u)).answer ≢ Ok y)
   -- "The refusal for an impossible state is never given"
-  pub never_impossible : (e : Event) → (step r.now e).answer ≢ Refused Impossible
+  pub never_impossible : (e : Event) → (step r.now e).answer ≢ Err Impossible
   -- nor is that for an ill formed one
-  pub never_ill_formed : (e : Event) → (step r.now e).answer ≢ Refused IllFormed
+  pub never_ill_formed : (e : Event) → (step r.now e).answer ≢ Err IllFormed

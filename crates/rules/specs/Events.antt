@@ -1,5 +1,5 @@
 -- "The events": for each, the reasons to refuse it in the paper's order, and what it does where none holds.
-use Rattle.std.specs.Prelude.{ℕ, ◌^◌, ◌<◌, Bool, cond, not, ◌&&◌, List, [], ◌∷◌, ◌++◌, length, eqb, leb}
+use Rattle.std.specs.Prelude.{Ok, ℕ, ◌^◌, ◌<◌, Bool, cond, not, ◌&&◌, List, [], ◌∷◌, ◌++◌, length, eqb, leb}
 use Rattle.rules.specs.Lists.{replace, removed, keep}
 use Rattle.rules.specs.Masks.{only, without, inside}
 use Rattle.rules.specs.Numbers.{home, room, no_number, same_number, first_retry, gets, putx, none, taken, stale}
@@ -24,13 +24,12 @@ use Rattle.rules.specs.Chassis.{
   cell_changed,
   pool_changed,
 }
-use Rattle.rules.specs.Answers.{Result, result, Reason, ◌if◌, refused_by}
+use Rattle.rules.specs.Answers.{Step, result, Reason, ◌if◌, refused_by}
 use Rattle.rules.specs.Order.{order, order_reasons}
 use Rattle.rules.specs.Formed.{sizes, well_formed}
 use Rattle.rules.specs.declared.Edition.{Edition}
 use Rattle.rules.specs.declared.Cell.{Cell}
 use Rattle.rules.specs.declared.Message.{Message}
-use Rattle.rules.specs.declared.Answer.TheVariants.{Done}
 use Rattle.rules.specs.declared.Refusal.TheVariants.{
   NoSuchCard,
   NoSuchBlock,
@@ -112,14 +111,14 @@ abbrev pub takes : Message → Cell → Cell
 takes m x = a_cell (filled_to x.state) m.value no_number
 
 -- "(outcome 1). Otherwise the message is stale (outcome 2). It leaves the pool either way; later ones close up."
-unfoldable pub deliver : Chassis → ℕ → Message → Result
+unfoldable pub deliver : Chassis → ℕ → Message → Step
 deliver c i m =
     let B = c.block m.block in
     let rest = removed i c.pool in
     cond (live B m)
-    (result (Done taken)
+    (result (Ok taken)
     (changed c m.block (with_cell B m.receiver (takes m (B.cell m.receiver))) c.line rest c.last))
-    (result (Done stale) (pool_changed c rest))
+    (result (Ok stale) (pool_changed c rest))
 
 -- Rejoin
 
@@ -146,22 +145,22 @@ EventFits (Copy i) = Unit {0}
 EventFits (Rejoin k) = Unit {0}
 
 -- what an event answers and leaves where nothing refuses it
-unfoldable pub effect : Chassis → Event → Result
-effect c (Load k b) = result (Done (cell_of c k b).value) c
-effect c (Store k b v) = result (Done 0) (cell_changed c k b (storing v (cell_of c k b)))
+unfoldable pub effect : Chassis → Event → Step
+effect c (Load k b) = result (Ok (cell_of c k b).value) c
+effect c (Store k b v) = result (Ok 0) (cell_changed c k b (storing v (cell_of c k b)))
 -- "S becomes I, home is not told"
-effect c (Drop k b) = result (Done 0) (cell_changed c k b idle)
-effect c (Ask k b kind mask) = result (Done 0) (ask c k b kind mask)
+effect c (Drop k b) = result (Ok 0) (cell_changed c k b idle)
+effect c (Ask k b kind mask) = result (Ok 0) (ask c k b kind mask)
 effect c Order = order c c.line
 effect c (Deliver i) = deliver c i (message_of c i)
 -- "the message again, at the pool's tail"
-effect c (Copy i) = result (Done 0) (pool_changed c (c.pool ++ message_of c i ∷ []))
-effect c (Rejoin k) = result (Done 0) (rejoin c k)
+effect c (Copy i) = result (Ok 0) (pool_changed c (c.pool ++ message_of c i ∷ []))
+effect c (Rejoin k) = result (Ok 0) (rejoin c k)
 
 -- "15 comes first wherever a state is handed in, so at every event but Start"
-unfoldable pub step : Chassis → Event → Result
+unfoldable pub step : Chassis → Event → Step
 step c e = refused_by c ((IllFormed if not (well_formed c)) ∷ reasons c e) (effect c e)
 
 -- Start: 14 "outside 1 to 8 cards or 1 to 32 blocks; whatever refuses to make a state answers one of 0 cards and 0 blocks, all places unused"
-unfoldable pub start : Edition → ℕ → ℕ → Result
-start e cards blocks = refused_by no_chassis ((NoSuchSize if not (sizes cards blocks)) ∷ []) (result (Done 0) (fresh e cards blocks))
+unfoldable pub start : Edition → ℕ → ℕ → Step
+start e cards blocks = refused_by no_chassis ((NoSuchSize if not (sizes cards blocks)) ∷ []) (result (Ok 0) (fresh e cards blocks))

@@ -1,11 +1,10 @@
 -- The history of a run: what its events did, the stores they made, and what became of each.
-use Rattle.std.specs.Prelude.{ℕ, Bool, true, false, cond, not, ◌&&◌, ◌||◌, List, [], ◌∷◌, map, length, eqb}
+use Rattle.std.specs.Prelude.{Err, Ok, ℕ, Bool, true, false, cond, not, ◌&&◌, ◌||◌, List, [], ◌∷◌, map, length, eqb}
 use Rattle.rules.specs.Numbers.{granted, put_taken}
 use Rattle.rules.specs.Chassis.{Chassis}
 use Rattle.rules.specs.Events.{step}
 use Rattle.rules.specs.declared.Request.{Request}
-use Rattle.rules.specs.declared.Answer.{Answer}
-use Rattle.rules.specs.declared.Answer.TheVariants.{Done, Refused}
+use Rattle.rules.specs.Answers.{Answer}
 use Rattle.rules.specs.declared.Event.{Event}
 use Rattle.rules.specs.declared.Event.TheVariants.{
   Load,
@@ -50,8 +49,8 @@ did_accepted c (Rejoin k) _ = rejoined k
 
 -- what an event did by its answer
 unfoldable pub did : Chassis → Event → Answer → Did
-did c e (Done v) = did_accepted c e v
-did c e (Refused r) = quiet
+did c e (Ok v) = did_accepted c e v
+did c e (Err r) = quiet
 
 -- a chassis, and the log of what led to it, newest first
 pub record Run : Type 0 where

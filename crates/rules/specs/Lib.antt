@@ -4,6 +4,7 @@ pub mod Lists
 pub mod Masks
 pub mod Numbers
 pub mod Table
+pub mod Rows
 pub mod Chassis
 pub mod Answers
 pub mod Mask

@@ -1,7 +1,8 @@
 -- The paper's numbers, by name. The refusals are the cases of `Refusal`, whose numbers are in Answers.
-use Rattle.std.specs.Prelude.{ℕ, suc, ◌-◌, ◌^◌, Bool, eqb, leb}
+use Rattle.std.specs.Prelude.{Err, Ok, ℕ, suc, ◌-◌, ◌^◌, Bool, cond, Result, eqb, leb}
 use Rattle.rules.specs.declared.Edition.{Edition}
 use Rattle.rules.specs.declared.Edition.TheVariants.{Msi, Mosi}
+use Rattle.rules.specs.declared.NoEdition.{NoEdition}
 use Rattle.rules.specs.declared.OrderNo.{OrderNo}
 use Rattle.rules.specs.declared.RetryNo.{RetryNo}
 
@@ -127,6 +128,10 @@ OI_A = 13
 abbrev pub edition_no : Edition → ℕ
 edition_no Msi = 0
 edition_no Mosi = 1
+
+-- and back: a number that is no edition's is handed back
+abbrev pub edition_by : ℕ → Result Edition NoEdition
+edition_by n = cond (eqb n (edition_no Msi)) (Ok Msi) (cond (eqb n (edition_no Mosi)) (Ok Mosi) (Err (record { 0 = n })))
 
 -- how many states there are; R-1: "in MSI states 11 to 13 are ill formed"
 abbrev pub states : ℕ

@@ -1,5 +1,5 @@
 -- Order: "takes the head, from card q, and the next order number".
-use Rattle.std.specs.Prelude.{ℕ, Bool, true, cond, not, ◌&&◌, ◌||◌, List, [], ◌∷◌, ◌++◌, length, eqb, leb}
+use Rattle.std.specs.Prelude.{Ok, ℕ, Bool, true, cond, not, ◌&&◌, ◌||◌, List, [], ◌∷◌, ◌++◌, length, eqb, leb}
 use Rattle.rules.specs.Tests.{any, some}
 use Rattle.rules.specs.Masks.{has, only, every, union}
 use Rattle.rules.specs.Mask.{suffices}
@@ -42,7 +42,7 @@ use Rattle.rules.specs.Chassis.{
   goes_for,
   changed,
 }
-use Rattle.rules.specs.Answers.{Result, result, Reason, ◌if◌}
+use Rattle.rules.specs.Answers.{Step, result, Reason, ◌if◌}
 use Rattle.rules.specs.declared.Edition.{Edition}
 use Rattle.rules.specs.declared.OrderNo.{OrderNo}
 use Rattle.rules.specs.declared.RetryNo.{RetryNo}
@@ -58,7 +58,6 @@ use Rattle.rules.specs.declared.Turn.TheVariants.{
   PutTaken,
   PutLapsed,
 }
-use Rattle.rules.specs.declared.Answer.TheVariants.{Done}
 use Rattle.rules.specs.declared.Refusal.TheVariants.{
   LineEmpty,
   BlockHeld,
@@ -298,16 +297,16 @@ ordered t B r n =
     a_block (u.memory B r.card) (u.owner B r.card) (u.sharers B r.card) (sees t B r n)
 
 -- the head r is taken, with what its turn does to block, line and pool, under the next order number
-unfoldable pub order_head : Chassis → Request → List Request → Result
+unfoldable pub order_head : Chassis → Request → List Request → Step
 order_head c r rest =
     let B = c.block r.block in
     let n = next_number c.last in
     let t = turn c r in
     let u = upshot_of t in
-    result (Done u.outcome)
+    result (Ok u.outcome)
     (changed c r.block (ordered t B r n) (rest ++ u.again c.cards B r) (c.pool ++ u.sent B r n) n)
 
 -- an empty line is refused before this
-unfoldable pub order : Chassis → List Request → Result
-order c [] = result (Done 0) c
+unfoldable pub order : Chassis → List Request → Step
+order c [] = result (Ok 0) c
 order c (r ∷ rest) = order_head c r rest

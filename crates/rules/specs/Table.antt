@@ -1,5 +1,5 @@
 -- "A card's cell": the rows of the card state table, and the states that the rules name.
-use Rattle.std.specs.Prelude.{ℕ, Bool, true, false, cond, List, [], ◌∷◌, get_or, eqb}
+use Rattle.std.specs.Prelude.{ℕ, Bool, true, false, cond, Option, None, Some, List, [], ◌∷◌, get_or, eqb}
 use Rattle.rules.specs.Tests.{one_of}
 use Rattle.rules.specs.Numbers.{
   S,
@@ -81,6 +81,10 @@ card_table =
 unfoldable pub row_of : ℕ → Row
 unfolding card_table
 row_of s = get_or card_table s (row – – · · · · · ·)
+
+-- where a place of the table leads: nowhere, where it is empty; what the code says of a place
+abbrev pub leads : ℕ → Option ℕ
+leads t = cond (eqb t none) None (Some t)
 
 -- The columns
 

@@ -8,8 +8,9 @@ use mathlib.Core.Bool.{cond}
 use mathlib.Core.List.{List, [], ◌∷◌, ◌++◌, append_assoc}
 use mathlib.Core.Path.{◌≡◌, refl, sym, ap, ap₂, ◌∙◌, fun_ext}
 use lib.ListN.{length, get_or, set, take, drop, length-append, length-set, take-append-drop, get_or-eq_default}
-use lib.Seq.{take_at, drop_at, drop-cons, take-suc-set, drop-set-lt}
+use lib.Seq.{paste, take_at, drop_at, drop-cons, take-suc-set, drop-set-lt}
 use lib.Dec.{ltb}
+use Rattle.std.specs.List.{copy_within}
 use borrow.Author.Tests.{ltb-true, ltb-false, lt-ltb, le-ltb}
 use Rattle.rules.specs.Lists.{replace, removed}
 use Rattle.rules.proofs.Tests.{test}
@@ -227,15 +228,11 @@ module _ {A : Type 0} (d : A) (words : ℕ → (ℕ → A) → List ℕ) (header
         ∙ ap (words (a + t)) (pulled-removed d l a t size)
         ∙ ap (λ q. words q (places d (removed a l))) (sym (length_removed l a t size))
 
--- A loop that closes up, word by word
+-- What `copy_within` leaves
 
-pub closing-step : (w w' : List ℕ) (p z m : ℕ) (v : List ℕ) → p < z → w' ≡ set w p (get_or w (p + m) 0)
-    → closing w p (z - p) m ≡ v → closing w' (p + 1) (z - (p + 1)) m ≡ v
-unfolding closing
-closing-step w w' p z m v h e f =
-    let n : z - p ≡ suc (z - (p + 1)) = omega arith in
-    ap (λ l. closing l (p + 1) (z - (p + 1)) m) e ∙ ap (λ k. closing w p k m) (sym n) ∙ f
-
-pub closing-done : (w : List ℕ) (p z m : ℕ) (v : List ℕ) → z ≤ p → closing w p (z - p) m ≡ v → w ≡ v
-unfolding closing
-closing-done w p z m v h f = let none : z - p ≡ 0 = omega arith in ap (λ k. closing w p k m) (sym none) ∙ f
+pub closing-copied : (w : List ℕ) (p z m : ℕ) → p ≤ z → z + m ≤ length w → copy_within w (p + m) (z + m) p ≡ closing w p (z - p) m
+unfolding closed_up
+closing-copied w p z m le h =
+    let n : z + m - (p + m) ≡ z - p = omega arith in
+    ap (paste w p (drop (p + m) w)) n ∙ append_assoc (take p w) (take (z - p) (drop (p + m) w)) (drop (p + (z - p)) w)
+    ∙ sym (closing-closed (z - p) w p m (omega arith))

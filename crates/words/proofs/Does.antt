@@ -1,4 +1,5 @@
 -- What an event on formed words does, from the tests that led there.
+use Rattle.std.specs.Prelude.{Err}
 use Prim.Native.Nat.{ℕ, ◌≤◌}
 use native.Mathlib.Omega.{arith}
 use mathlib.Core.Bool.{true}
@@ -6,11 +7,10 @@ use mathlib.Core.List.{List}
 use mathlib.Core.Path.{◌≡◌, refl, sym, ◌∙◌, ap}
 use Rattle.rules.specs.Numbers.{room}
 use Rattle.rules.specs.Chassis.{Chassis}
-use Rattle.rules.specs.Answers.{Result, result, refused_by, FirstHolds, NoneHolds}
+use Rattle.rules.specs.Answers.{Step, result, refused_by, FirstHolds, NoneHolds}
 use Rattle.rules.specs.Formed.{well_formed}
 use Rattle.rules.specs.Events.{reasons, effect, step}
-use Rattle.rules.specs.declared.Answer.{Answer}
-use Rattle.rules.specs.declared.Answer.TheVariants.{Refused}
+use Rattle.rules.specs.Answers.{Answer}
 use Rattle.rules.specs.declared.Refusal.{Refusal}
 use Rattle.rules.specs.declared.Event.{Event}
 use Rattle.rules.proofs.Refusals.{refuses, accepts}
@@ -37,15 +37,15 @@ module _ (w : List ℕ) (f : formed w ≡ true) where
 
   -- Ways to end
 
-  ends : (e : Event) (o : Result) (r : Answer) (w' : List ℕ) → act (view w) e ≡ o → r ≡ o.answer → w' ≡ words o.after → Does w e r w'
+  ends : (e : Event) (o : Step) (r : Answer) (w' : List ℕ) → act (view w) e ≡ o → r ≡ o.answer → w' ≡ words o.after → Does w e r w'
   ends e o r w' h a b = record {
-    answer = a ∙ sym (ap (λ (o : Result). o.answer) h);
-    after = b ∙ sym (ap (λ (o : Result). words o.after) h);
+    answer = a ∙ sym (ap (λ (o : Step). o.answer) h);
+    after = b ∙ sym (ap (λ (o : Step). words o.after) h);
   }
 
-  pub refused : (e : Event) (x : Refusal) → FirstHolds (reasons (view w) e) x → Does w e (Refused x) w
+  pub refused : (e : Event) (x : Refusal) → FirstHolds (reasons (view w) e) x → Does w e (Err x) w
   unfolding act
-  refused e x h = ends e (result (Refused x) (view w)) (Refused x) w
+  refused e x h = ends e (result (Err x) (view w)) (Err x) w
       (refuses (view w) (reasons (view w) e) (effect (view w) e) x h) refl (formed-words w f)
 
   pub done : (e : Event) (r : Answer) (w' : List ℕ) → NoneHolds (reasons (view w) e)

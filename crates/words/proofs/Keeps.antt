@@ -1,4 +1,5 @@
 -- An event keeps formed words formed: what it leaves fits its fields, and is as Start makes it beyond the room there is.
+use Rattle.std.specs.Prelude.{Err, Ok}
 use Prim.Native.Nat.{ℕ, zero, suc, ◌^◌, ◌≤◌, ◌<◌}
 use native.Mathlib.Omega.{arith}
 use mathlib.Core.Bool.{true, false, cond}
@@ -30,7 +31,7 @@ use Rattle.rules.specs.Chassis.{
   pool_changed,
   no_chassis,
 }
-use Rattle.rules.specs.Answers.{Result, NoneHolds}
+use Rattle.rules.specs.Answers.{Step, NoneHolds}
 use Rattle.rules.specs.Order.{
   given,
   upshot_of,
@@ -63,8 +64,7 @@ use Rattle.rules.specs.declared.OrderNo.{OrderNo}
 use Rattle.rules.specs.declared.Cell.{Cell}
 use Rattle.rules.specs.declared.Request.{Request}
 use Rattle.rules.specs.declared.Message.{Message}
-use Rattle.rules.specs.declared.Answer.{Answer}
-use Rattle.rules.specs.declared.Answer.TheVariants.{Done, Refused}
+use Rattle.rules.specs.Answers.{Answer}
 use Rattle.rules.specs.declared.Refusal.{Refusal}
 use Rattle.rules.specs.declared.Turn.{Turn}
 use Rattle.rules.specs.declared.Event.{Event}
@@ -343,7 +343,7 @@ module _ {c : Chassis} (w : Wf c) (h : Kept c) where
   deliver-kept i m ok v =
       let x = message→ c.cards c.blocks c.last m ok in
       let rest = All-removed LowMessage i c.pool h.messages in
-      cond_cases (λ (o : Result). Kept o.after) (live (c.block m.block) m) _ _
+      cond_cases (λ (o : Step). Kept o.after) (live (c.block m.block) m) _ _
       (λ _. cell-kept m.receiver m.block _ c.line (removed i c.pool) x.receiver x.block v rest)
       (λ _. pool-kept (removed i c.pool) rest)
 
@@ -392,7 +392,7 @@ module _ {c : Chassis} (w : Wf c) (h : Kept c) where
 
   act-kept : (e : Event) → EventFits e → Kept (act c e).after
   unfolding act
-  act-kept e f = refused-cases c (λ (o : Result). Kept o.after) (reasons c e) (effect c e) (λ _. h) (λ g. effect-kept e g f)
+  act-kept e f = refused-cases c (λ (o : Step). Kept o.after) (reasons c e) (effect c e) (λ _. h) (λ g. effect-kept e g f)
 
 -- Formed words stay formed
 
@@ -402,14 +402,14 @@ act-says w e h f =
     let c = view w in
     let wf = formed-chassis w h in
     words-say (act c e).after
-    (subst (λ (o : Result). well_formed o.after ≡ true) (step-act c e wf) (stays-formed c e wf))
+    (subst (λ (o : Step). well_formed o.after ≡ true) (step-act c e wf) (stays-formed c e wf))
     (act-kept (wf→ c wf) (view-kept w) e f)
 
 -- an event keeps a chassis that its words say
 pub step-says : (c : Chassis) (e : Event) → EventFits e → Sayable c → Sayable (step c e).after
 step-says c e f h =
     let well : well_formed c ≡ true = subst (λ (d : Chassis). well_formed d ≡ true) h.1 (formed-chassis (words c) h.0) in
-    subst (λ (o : Result). Sayable o.after) (sym (step-act c e well))
+    subst (λ (o : Step). Sayable o.after) (sym (step-act c e well))
     (subst (λ (d : Chassis). Sayable (act d e).after) h.1 (act-says (words c) e h.0 f))
 
 -- what does an event leaves formed words formed
@@ -434,8 +434,8 @@ fresh-view e cards blocks = view_words (fresh e cards blocks) (record {
 })
 
 -- the words that an accepted Start makes
-pub start-says : (e : Edition) (cards blocks v : ℕ) → (start e cards blocks).answer ≡ Done v → Sayable (start e cards blocks).after
-start-says e cards blocks v = start-cases e cards blocks (λ (o : Result). o.answer ≡ Done v → Sayable o.after)
+pub start-says : (e : Edition) (cards blocks v : ℕ) → (start e cards blocks).answer ≡ Ok v → Sayable (start e cards blocks).after
+start-says e cards blocks v = start-cases e cards blocks (λ (o : Step). o.answer ≡ Ok v → Sayable o.after)
     (λ s _. words-say (fresh e cards blocks) (fresh-formed e cards blocks s)
     (record { blocks = λ _. fresh-within; beyond = λ _ _. refl; messages = tt }))
     (λ r f. absurd (refused≢done r v f))
@@ -446,9 +446,9 @@ none-formed = test (formed (words no_chassis))
     (λ e. absurd (let s = (sizes (words no_chassis) e).a-card in let n = cards-of no_chassis (words no_chassis) refl in omega arith))
     (λ e. e)
 
-pub start-refused-words : (e : Edition) (cards blocks : ℕ) (r : Refusal) → (start e cards blocks).answer ≡ Refused r
+pub start-refused-words : (e : Edition) (cards blocks : ℕ) (r : Refusal) → (start e cards blocks).answer ≡ Err r
     → formed (words (start e cards blocks).after) ≡ false
-start-refused-words e cards blocks r = start-cases e cards blocks (λ (o : Result). o.answer ≡ Refused r → formed (words o.after) ≡ false)
+start-refused-words e cards blocks r = start-cases e cards blocks (λ (o : Step). o.answer ≡ Err r → formed (words o.after) ≡ false)
     (λ _ e. absurd (refused≢done r 0 (sym e)))
     (λ _ _. none-formed)
 
@@ -465,4 +465,4 @@ start_forms e cards blocks v h = (start-says e cards blocks v h).0
 
 pub step_forms : StepForms
 step_forms w e f h =
-    subst (λ (o : Result). formed (words o.after) ≡ true) (sym (step-act (view w) e (formed-chassis w h))) (act-says w e h f).0
+    subst (λ (o : Step). formed (words o.after) ≡ true) (sym (step-act (view w) e (formed-chassis w h))) (act-says w e h f).0

@@ -7,12 +7,10 @@ pub mod Changes
 pub mod Same
 pub mod Tested
 pub mod Checks
-pub mod Mask
 pub mod Does
 pub mod Keeps
 pub mod Pooled
 pub mod Rejoined
 pub mod Seeing
-pub mod Turned
 pub mod Started
 pub mod Values

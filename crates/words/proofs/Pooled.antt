@@ -1,4 +1,5 @@
 -- Deliver and Copy: each way that they end, and what is known of a message of the pool.
+use Rattle.std.specs.Prelude.{Err, Ok}
 use Prim.Native.Nat.{ℕ, ◌≤◌, ◌<◌}
 use native.Mathlib.Omega.{arith}
 use mathlib.Core.Bool.{Bool, true, false, cond, ◌&&◌}
@@ -11,12 +12,11 @@ use Rattle.rules.specs.Lists.{removed}
 use Rattle.rules.specs.Numbers.{most_cards, most_blocks, room, same_number, taken, stale}
 use Rattle.rules.specs.Table.{waits}
 use Rattle.rules.specs.Chassis.{Chassis, cell_of, message_of, cell_changed, pool_changed, unused_message}
-use Rattle.rules.specs.Answers.{Result, result, Reason, FirstHolds}
+use Rattle.rules.specs.Answers.{Step, result, Reason, FirstHolds}
 use Rattle.rules.specs.Formed.{ok_message}
 use Rattle.rules.specs.Events.{no_message, live, takes, deliver, reasons, effect}
 use Rattle.rules.specs.declared.Cell.{Cell}
 use Rattle.rules.specs.declared.Message.{Message}
-use Rattle.rules.specs.declared.Answer.TheVariants.{Done, Refused}
 use Rattle.rules.specs.declared.Refusal.TheVariants.{NoSuchMessage, PoolFull}
 use Rattle.rules.specs.declared.Event.{Event}
 use Rattle.rules.specs.declared.Event.TheVariants.{Deliver, Copy}
@@ -30,7 +30,7 @@ use Rattle.words.proofs.Does.{wf, sizes, refused, done}
 
 -- 11 is tested first
 pub no-message : (w : List ℕ) → formed w ≡ true → (i : ℕ) (e : Event) (rs : List Reason)
-    → reasons (view w) e ≡ no_message (view w) i ∷ rs → pooled_of w ≤ i → Does w e (Refused NoSuchMessage) w
+    → reasons (view w) e ≡ no_message (view w) i ∷ rs → pooled_of w ≤ i → Does w e (Err NoSuchMessage) w
 unfolding no_message
 no-message w f i e rs is h = refused w f e NoSuchMessage (subst (λ l. FirstHolds l NoSuchMessage) (sym is)
     (inl (le-leb (length (view w).pool) i (omega (arith, pooled-is w)), refl)))
@@ -48,15 +48,15 @@ module _ (w : List ℕ) (f : formed w ≡ true) (i : ℕ) (h : i < pooled_of w) 
   there = lt-leb (length (view w).pool) i (omega (arith, pooled-is w))
 
   -- 10, of Copy
-  pub copy-full : room ≤ pooled_of w → Does w (Copy i) (Refused PoolFull) w
+  pub copy-full : room ≤ pooled_of w → Does w (Copy i) (Err PoolFull) w
   unfolding reasons
   copy-full g = refused w f (Copy i) PoolFull (inr (there, inl (le-leb room (length (view w).pool) (omega (arith, pooled-is w)), refl)))
 
   -- a delivery that leaves what the rules' effect leaves
-  delivered : (o : Result) → effect (view w) (Deliver i) ≡ o → (w' : List ℕ) → w' ≡ words o.after → Does w (Deliver i) o.answer w'
+  delivered : (o : Step) → effect (view w) (Deliver i) ≡ o → (w' : List ℕ) → w' ≡ words o.after → Does w (Deliver i) o.answer w'
   unfolding reasons
   delivered o is w' b = done w f (Deliver i) o.answer w' (there, tt)
-      (sym (ap (λ (o : Result). o.answer) is)) (b ∙ sym (ap (λ (o : Result). words o.after) is))
+      (sym (ap (λ (o : Step). o.answer) is)) (b ∙ sym (ap (λ (o : Step). words o.after) is))
 
   module _ (m : Message) (at : m ≡ message_at w i) where
     -- it is the rules' message at that position
@@ -64,9 +64,9 @@ module _ (w : List ℕ) (f : formed w ≡ true) (i : ℕ) (h : i < pooled_of w) 
     message-is = view-message w i h ∙ sym at
 
     -- it joins the tail again
-    pub copy_done : pooled_of w < room → (w' : List ℕ) → Becomes w w' (λ c. pool_changed c (c.pool ++ m ∷ [])) → Does w (Copy i) (Done 0) w'
+    pub copy_done : pooled_of w < room → (w' : List ℕ) → Becomes w w' (λ c. pool_changed c (c.pool ++ m ∷ [])) → Does w (Copy i) (Ok 0) w'
     unfolding reasons effect
-    copy_done g w' b = done w f (Copy i) (Done 0) w'
+    copy_done g w' b = done w f (Copy i) (Ok 0) w'
         (there, (lt-leb room (length (view w).pool) (omega (arith, pooled-is w)), tt)) refl
         (b (view w) (formed-words w f) ∙ ap (λ (x : Message). words (pool_changed (view w) ((view w).pool ++ x ∷ []))) (sym message-is))
 
@@ -95,14 +95,14 @@ module _ (w : List ℕ) (f : formed w ≡ true) (i : ℕ) (h : i < pooled_of w) 
 
       -- what comes of it, where it is known whether the receiver waits for it
       outcome : (t : Bool) → is_live x m ≡ t
-          → effect (view w) (Deliver i) ≡ cond t (result (Done taken) (pool_changed filled rest)) (result (Done stale) (pool_changed (view w) rest))
+          → effect (view w) (Deliver i) ≡ cond t (result (Ok taken) (pool_changed filled rest)) (result (Ok stale) (pool_changed (view w) rest))
       unfolding effect deliver live
       outcome t g = ap (deliver (view w) i) message-is ∙ rw (cell-is, g)
 
       -- the receiver does not wait for it
       pub deliver-stale : is_live x m ≡ false
-          → (w' : List ℕ) → Becomes w w' (λ c. pool_changed c (removed i c.pool)) → Does w (Deliver i) (Done stale) w'
-      deliver-stale g w' b = delivered (result (Done stale) (pool_changed (view w) rest)) (outcome false g) w' (b (view w) (formed-words w f))
+          → (w' : List ℕ) → Becomes w w' (λ c. pool_changed c (removed i c.pool)) → Does w (Deliver i) (Ok stale) w'
+      deliver-stale g w' b = delivered (result (Ok stale) (pool_changed (view w) rest)) (outcome false g) w' (b (view w) (formed-words w f))
 
       -- the receiver takes it: its cell is put anew, then the message leaves
       module _ (y : Cell) (is : y ≡ takes m x) (w₁ : List ℕ) (put : w₁ ≡ put_cell w m.receiver m.block y) where
@@ -115,5 +115,5 @@ module _ (w : List ℕ) (f : formed w ≡ true) (i : ℕ) (h : i < pooled_of w) 
         put-pooled = pooled-of filled w₁ put-words ∙ pooled-is w
 
         pub deliver-taken : is_live x m ≡ true
-            → (w' : List ℕ) → Becomes w₁ w' (λ c. pool_changed c (removed i c.pool)) → Does w (Deliver i) (Done taken) w'
-        deliver-taken g w' b = delivered (result (Done taken) (pool_changed filled rest)) (outcome true g) w' (b filled put-words)
+            → (w' : List ℕ) → Becomes w₁ w' (λ c. pool_changed c (removed i c.pool)) → Does w (Deliver i) (Ok taken) w'
+        deliver-taken g w' b = delivered (result (Ok taken) (pool_changed filled rest)) (outcome true g) w' (b filled put-words)

@@ -1,5 +1,6 @@
 -- Rejoin: the card's requests leave the line, it leaves the blocks that are there, and so the rules' rejoin is done.
-use Prim.Native.Nat.{ℕ, zero, suc, ◌+◌, ◌-◌, ◌^◌, ◌≤◌, ◌<◌}
+use Rattle.std.specs.Prelude.{Err, Ok}
+use Prim.Native.Nat.{ℕ, zero, suc, ◌+◌, ◌^◌, ◌≤◌, ◌<◌}
 use native.Mathlib.Nat.{add-zero, mod-eq_of_lt}
 use native.Mathlib.Numerals.{add-one}
 use native.Mathlib.Omega.{arith}
@@ -17,11 +18,10 @@ use Rattle.rules.specs.Chassis.{Block, Chassis, a_block, idle, fresh_block, unus
 use Rattle.rules.specs.Events.{no_card, reasons, rejoin_block, rejoin, effect}
 use Rattle.rules.specs.declared.Cell.{Cell}
 use Rattle.rules.specs.declared.Request.{Request}
-use Rattle.rules.specs.declared.Answer.TheVariants.{Done, Refused}
 use Rattle.rules.specs.declared.Refusal.TheVariants.{NoSuchCard}
 use Rattle.rules.specs.declared.Event.TheVariants.{Rejoin}
 use Rattle.rules.proofs.Tests.{test}
-use Rattle.rules.proofs.Lists.{replace-cases, replace-same, All-map, All-removed, All-at, removed-short, replace-twice}
+use Rattle.rules.proofs.Lists.{replace-cases, replace-same, All-map, All-at, keep-short, replace-twice}
 use Rattle.rules.proofs.Formed.{unused-idle, unused→, request→}
 use Rattle.rules.specs.declared.Home.{Home}
 use Rattle.words.specs.Layout.{home_words, home_place, request_place}
@@ -45,10 +45,9 @@ use Rattle.words.specs.Claims.{BlockFits}
 use Rattle.words.specs.Inner.Parts.{Becomes, Does, put_cell, put_home}
 use Rattle.words.specs.Inner.Leaving.{home_left, BlocksFit, block_left, blocks_left, stays, line_left, BecomesIf}
 use Rattle.words.proofs.Image.{plain, words-image, get-home, get-request}
-use Rattle.words.proofs.View.{formed-words, view-block, waiting-of, blocks-of}
-use Rattle.words.proofs.Closing.{length_removed}
+use Rattle.words.proofs.View.{formed-words, view-block, waiting-is, waiting-of, blocks-of}
 use Rattle.words.proofs.Changes.{cell-words, home-words}
-use Rattle.words.proofs.Does.{wf, sizes, refused, done}
+use Rattle.words.proofs.Does.{wf, sizes, line_room, refused, done}
 use Rattle.words.proofs.Keeps.{rejoin-fresh, formed_says}
 
 -- Home's part of a block
@@ -126,7 +125,7 @@ module _ (k : ℕ) (c : Chassis) where
 -- The line
 
 -- the first i of a list, and those of the rest that pass the test
-unfoldable leaving : {A : Type 0} → (A → Bool) → ℕ → List A → List A
+unfoldable pub leaving : {A : Type 0} → (A → Bool) → ℕ → List A → List A
 leaving f zero l = keep f l
 leaving f (suc i) [] = []
 leaving f (suc i) (x ∷ l) = x ∷ leaving f i l
@@ -139,7 +138,7 @@ module _ {A : Type 0} (f : A → Bool) (d : A) where
   leaving-pass zero (x ∷ l) h t = rw t
   leaving-pass (suc i) (x ∷ l) h t = ap (λ r. x ∷ r) (leaving-pass i l (omega arith) t)
 
-  leaving-out : (i : ℕ) (l : List A) → i < length l → f (get_or l i d) ≡ false → leaving f i (removed i l) ≡ leaving f i l
+  leaving-out : (i : ℕ) (l : List A) → i < length l → f (get_or l i d) ≡ false → removed i (leaving f (suc i) l) ≡ leaving f i l
   unfolding leaving keep removed
   leaving-out i [] h t = absurd (omega arith)
   leaving-out zero (x ∷ l) h t = rw t
@@ -152,88 +151,91 @@ module _ {A : Type 0} (f : A → Bool) (d : A) where
   leaving-end zero (x ∷ l) h = absurd (omega arith)
   leaving-end (suc i) (x ∷ l) h = ap (λ r. x ∷ r) (leaving-end i l (omega arith))
 
--- words w where card k's requests have left the first i places of c's line
-pub record Leaves (c : Chassis) (k : ℕ) (w : List ℕ) (i : ℕ) : Type 0 where
-  line : List Request
-  is : w ≡ words (line_changed c line)
-  left : leaving (stays k) i line ≡ keep (stays k) c.line
-  cards : All (λ r. r.card < 2 ^ 8) line
-  short : length line ≤ room
+  -- the first keep their places, and no more are there than there were
+  leaving-first : (j i : ℕ) (l : List A) → j < i → get_or (leaving f i l) j d ≡ get_or l j d
+  unfolding leaving
+  leaving-first j zero l h = absurd (omega arith)
+  leaving-first j (suc i) [] h = refl
+  leaving-first zero (suc i) (x ∷ l) h = refl
+  leaving-first (suc j) (suc i) (x ∷ l) h = leaving-first j i l (omega arith)
 
--- at first none has left
-pub leaves_none : (w : List ℕ) (k : ℕ) → formed w ≡ true → Leaves (view w) k w 0
-unfolding leaving view
-leaves_none w k f =
-    let few = (sizes w f).few-cards in
-    record {
-      line = (view w).line;
-      is = formed-words w f;
-      left = refl;
-      cards = All-map (λ r h. let x = request→ (view w).cards (view w).blocks r h in omega arith) (view w).line (wf w f).requests;
-      short = (wf w f).line_room;
-    }
+  leaving-long : (i : ℕ) (l : List A) → i ≤ length l → i ≤ length (leaving f i l)
+  unfolding leaving
+  leaving-long zero l h = omega arith
+  leaving-long (suc i) [] h = h
+  leaving-long (suc i) (x ∷ l) h = let n = leaving-long i l (omega arith) in omega arith
 
-module _ (c : Chassis) (k : ℕ) (w : List ℕ) (i : ℕ) (x : Leaves c k w i) where
-  -- the chassis whose words these are
-  abbrev now : Chassis
-  now = line_changed c x.line
+  leaving-short : (i : ℕ) (l : List A) → length (leaving f i l) ≤ length l
+  unfolding leaving
+  leaving-short zero l = keep-short f l
+  leaving-short (suc i) [] = omega arith
+  leaving-short (suc i) (x ∷ l) = let n = leaving-short i l in omega arith
 
-  waiting-now : waiting_of w ≡ length x.line
-  waiting-now = waiting-of now w x.is
+-- the words where card k's requests have left the line but for its first i places
+module _ (w : List ℕ) (k : ℕ) where
+  abbrev line : List Request
+  line = (view w).line
 
-  pub leaves-room : waiting_of w ≤ room
-  leaves-room = let s = x.short in omega (arith, waiting-now)
+  abbrev after : ℕ → Chassis
+  after i = line_changed (view w) (leaving (stays k) i line)
 
-  -- past the last place all have left
-  pub leaves_all : waiting_of w ≤ i → w ≡ words (line_left c k)
-  leaves_all h =
-      let all = leaving-end (stays k) unused_request i x.line (omega (arith, waiting-now)) in
-      x.is ∙ ap (λ l. words (line_changed c l)) (sym all ∙ x.left)
+  abbrev pub Leaves : List ℕ → ℕ → Type 0
+  Leaves w' i = w' ≡ words (after i)
 
-  -- the request at i, as the code reads it
-  module _ (i< : i < waiting_of w) (r : Request) (e : r ≡ request_at w i) where
-    there : i < length x.line
-    there = omega (arith, waiting-now)
+module _ (w : List ℕ) (f : formed w ≡ true) (k : ℕ) where
+  -- at first none has left, and at last all have
+  pub leaves_none : Leaves w k w (waiting_of w)
+  leaves_none = formed-words w f
+      ∙ ap (λ l. words (line_changed (view w) l)) (sym (leaving-end (stays k) unused_request (waiting_of w) (line w k) (let n = waiting-is w in omega arith)))
 
-    card-is : r.card ≡ (get_or x.line i unused_request).card
-    card-is =
-        let p = request_place i in
-        ap (λ (q : Request). q.card) e
-        ∙ ap (λ q. as_byte (get_or w q 0)) (sym (add-zero p))
-        ∙ ap (λ (l : List ℕ). as_byte (get_or l (p + 0) 0)) (x.is ∙ words-image now)
-        ∙ ap as_byte (get-request (plain now) i 0 (omega (arith, leaves-room)) (omega arith))
-        ∙ mod-eq_of_lt (All-at (λ r. r.card < 2 ^ 8) x.line i unused_request there x.cards)
+  pub leaves_all : (w' : List ℕ) → Leaves w k w' 0 → w' ≡ words (line_left (view w) k)
+  unfolding leaving
+  leaves_all w' e = e
 
-    -- another card's request stays
-    pub leaves-pass : (r.card ≡ k → ⊥) → Leaves c k w (i + 1)
-    leaves-pass ne =
-        let t : stays k (get_or x.line i unused_request) ≡ true = rw (← card-is, ne_eqb r.card k ne) in
-        record {
-          line = x.line;
-          is = x.is;
-          left = ap (λ j. leaving (stays k) j x.line) (add-one i) ∙ leaving-pass (stays k) unused_request i x.line there t ∙ x.left;
-          cards = x.cards;
-          short = x.short;
-        }
+  -- the request at i, the last that is still to be looked at
+  module _ (w' : List ℕ) (i : ℕ) (e : Leaves w k w' (i + 1)) (i< : i < waiting_of w) where
+    there : i < length (line w k)
+    there = let n = waiting-is w in omega arith
 
-    -- card k's is removed
-    module _ (is-k : r.card ≡ k) (w' : List ℕ) (gone : Becomes w w' (λ d. line_changed d (removed i d.line))) where
-      pub leaves-out : Leaves c k w' i
-      leaves-out =
-          let t : stays k (get_or x.line i unused_request) ≡ false = rw (← card-is, eq-eqb r.card k is-k) in
-          record {
-            line = removed i x.line;
-            is = gone now x.is;
-            left = leaving-out (stays k) unused_request i x.line there t ∙ x.left;
-            cards = All-removed (λ r. r.card < 2 ^ 8) i x.line x.cards;
-            short = let s = x.short in let g = removed-short i x.line in omega arith;
-          }
+    waiting-now : waiting_of w' ≡ length (leaving (stays k) (i + 1) (line w k))
+    waiting-now = waiting-of (after w k (i + 1)) w' e
 
-      pub leaves-fewer : waiting_of w' < waiting_of w
-      leaves-fewer =
-          let h = there in
-          let n = length_removed x.line i (length x.line - i - 1) (omega arith) in
-          omega (arith, waiting-now, waiting-of (line_changed c (removed i x.line)) w' (gone now x.is))
+    pub leaves-room : (i < waiting_of w') × (waiting_of w' ≤ room)
+    leaves-room =
+        let long = leaving-long (stays k) unused_request (i + 1) (line w k) (let h = there in omega arith) in
+        let short = leaving-short (stays k) unused_request (i + 1) (line w k) in
+        let n = waiting-is w in
+        let s = line_room w f in
+        (omega (arith, waiting-now), omega (arith, waiting-now))
+
+    -- as the code reads it
+    module _ (r : Request) (er : r ≡ request_at w' i) where
+      card-is : r.card ≡ (get_or (line w k) i unused_request).card
+      unfolding view
+      card-is =
+          let p = request_place i in
+          let few = (sizes w f).few-cards in
+          let cards : All (λ r. r.card < 2 ^ 8) (line w k) = All-map (λ r h. let x = request→ (view w).cards (view w).blocks r h in omega arith) (line w k) (wf w f).requests in
+          ap (λ (q : Request). q.card) er
+          ∙ ap (λ q. as_byte (get_or w' q 0)) (sym (add-zero p))
+          ∙ ap (λ (l : List ℕ). as_byte (get_or l (p + 0) 0)) (e ∙ words-image (after w k (i + 1)))
+          ∙ ap as_byte (get-request (plain (after w k (i + 1))) i 0 (let s = leaves-room in omega arith) (omega arith))
+          ∙ ap (λ (q : Request). as_byte q.card) (leaving-first (stays k) unused_request i (i + 1) (line w k) (omega arith))
+          ∙ mod-eq_of_lt (All-at (λ r. r.card < 2 ^ 8) (line w k) i unused_request there cards)
+
+      -- another card's request stays
+      pub leaves-pass : (r.card ≡ k → ⊥) → Leaves w k w' i
+      leaves-pass ne =
+          let t : stays k (get_or (line w k) i unused_request) ≡ true = rw (← card-is, ne_eqb r.card k ne) in
+          e ∙ ap (λ l. words (line_changed (view w) l))
+          (ap (λ j. leaving (stays k) j (line w k)) (add-one i) ∙ leaving-pass (stays k) unused_request i (line w k) there t)
+
+      -- card k's is removed
+      pub leaves-out : r.card ≡ k → (w'' : List ℕ) → Becomes w' w'' (λ d. line_changed d (removed i d.line)) → Leaves w k w'' i
+      leaves-out is-k w'' gone =
+          let t : stays k (get_or (line w k) i unused_request) ≡ false = rw (← card-is, eq-eqb r.card k is-k) in
+          gone (after w k (i + 1)) e ∙ ap (λ l. words (line_changed (view w) l))
+          (ap (λ j. removed i (leaving (stays k) j (line w k))) (add-one i) ∙ leaving-out (stays k) unused_request i (line w k) there t)
 
 -- The event
 
@@ -251,7 +253,7 @@ unused-fresh w f b h = test (ltb b most_blocks)
     (λ p. rw p)
 
 module _ (w : List ℕ) (f : formed w ≡ true) (k : ℕ) where
-  pub rejoin-refused : cards_of w ≤ k → Does w (Rejoin k) (Refused NoSuchCard) w
+  pub rejoin-refused : cards_of w ≤ k → Does w (Rejoin k) (Err NoSuchCard) w
   unfolding reasons no_card view
   rejoin-refused h = refused w f (Rejoin k) NoSuchCard (inl (le-leb (cards_of w) k h, refl))
 
@@ -270,9 +272,9 @@ module _ (w : List ℕ) (f : formed w ≡ true) (k : ℕ) where
   said_fits b b< = (formed_says.says w f).1.blocks b b<
 
   pub rejoin-done : (w₁ w₂ : List ℕ) → k < cards_of w → w₁ ≡ words (line_left (view w) k)
-      → BecomesIf BlocksFit w₁ w₂ (λ c. blocks_left c k c.blocks) → Does w (Rejoin k) (Done 0) w₂
+      → BecomesIf BlocksFit w₁ w₂ (λ c. blocks_left c k c.blocks) → Does w (Rejoin k) (Ok 0) w₂
   unfolding reasons no_card effect view
-  rejoin-done w₁ w₂ h e left = done w f (Rejoin k) (Done 0) w₂ (lt-leb (cards_of w) k h, tt) refl
+  rejoin-done w₁ w₂ h e left = done w f (Rejoin k) (Ok 0) w₂ (lt-leb (cards_of w) k h, tt) refl
       (left (line_left (view w) k) said_fits e ∙ ap words rejoin-is)
 
   -- there are as many blocks once the line is left

@@ -3,39 +3,25 @@ use Prim.Native.Nat.{ℕ, ◌+◌, ◌<◌}
 use native.Mathlib.Omega.{arith}
 use mathlib.Core.Bool.{cond}
 use mathlib.Core.List.{List}
-use mathlib.Core.Logic.{◌≢◌}
 use mathlib.Core.Path.{◌≡◌, sym, ◌∙◌, ap, subst, fun_ext}
 use lib.Dec.{ltb}
-use borrow.Author.Tests.{eq-eqb, ne_eqb, lt-ltb, le-ltb, ltb-true, ltb-false}
+use borrow.Author.Tests.{lt-ltb, le-ltb, ltb-true, ltb-false}
 use Rattle.rules.specs.Lists.{replace}
-use Rattle.rules.specs.Numbers.{most_cards, most_blocks, granted, too_small}
-use Rattle.rules.specs.Chassis.{Block, Chassis, a_block, idle, cell_of, with_cell, blocks_changed, block_changed}
-use Rattle.rules.specs.Order.{granted_cell, upshot_of, sees}
+use Rattle.rules.specs.Numbers.{most_cards, most_blocks}
+use Rattle.rules.specs.Chassis.{Block, Chassis, a_block, cell_of, with_cell, blocks_changed, block_changed}
+use Rattle.rules.specs.Order.{sees}
 use Rattle.rules.specs.declared.OrderNo.{OrderNo}
 use Rattle.rules.specs.declared.Cell.{Cell}
 use Rattle.rules.specs.declared.Request.{Request}
 use Rattle.rules.specs.declared.Turn.{Turn}
 use Rattle.rules.proofs.Lists.{replace-cases, replace-same, replace-own, replace-twice}
 use Rattle.rules.proofs.Tests.{test}
-use Rattle.rules.proofs.Upshots.{by-outcome}
-use Rattle.words.specs.Words.{words, cards_of, cell_at}
+use Rattle.words.specs.Words.{words, cell_at}
 use Rattle.words.specs.Claims.{CellFits}
 use Rattle.words.specs.Inner.Parts.{put_cell, seen_below}
 use Rattle.words.proofs.Image.{words-image}
-use Rattle.words.proofs.View.{cards-of, cell-again}
+use Rattle.words.proofs.View.{cell-again}
 use Rattle.words.proofs.Changes.{cell-words}
-
--- The asker's part, by the outcome
-
-module _ (t : Turn) (o : ℕ) (eo : o ≡ (upshot_of t).outcome) (n : OrderNo) (x : Cell) where
-  pub asker-granted : o ≡ granted → (y : Cell) → y ≡ granted_cell n x → y ≡ (upshot_of t).asker_sees n x
-  asker-granted g y e = rw ((by-outcome t).asker n x, ← eo, eq-eqb o granted g) e
-
-  pub asker-missed : o ≡ too_small → x ≡ (upshot_of t).asker_sees n x
-  asker-missed g = rw ((by-outcome t).asker n x, ← eo, g)
-
-  pub asker-put : o ≢ granted → o ≢ too_small → (y : Cell) → y ≡ idle → y ≡ (upshot_of t).asker_sees n x
-  asker-put g m y e = rw ((by-outcome t).asker n x, ← eo, ne_eqb o granted g, ne_eqb o too_small m) e
 
 -- what is f below m and g from there on: for m = 0 it is g, and f's own at m makes it so for m + 1
 module _ {A : Type 0} (f g : ℕ → A) where
@@ -56,29 +42,23 @@ module _ {A : Type 0} (f g : ℕ → A) where
 abbrev pub with_cells : Block → (ℕ → Cell) → Block
 with_cells B g = a_block B.memory B.owner B.sharers g
 
--- The cards see a request one after another
-
 module _ (w : List ℕ) (t : Turn) (n : OrderNo) (r : Request) (owner : ℕ) where
   -- w' are the words after the cards below m have seen request r, where home lists this owner
-  abbrev pub Seen : List ℕ → (Chassis → ℕ) → Type 0
-  Seen w' m = (c : Chassis) → w ≡ words c → ((k : ℕ) → k < most_cards → CellFits (cell_of c k r.block))
+  abbrev pub Seen : ℕ → List ℕ → Type 0
+  Seen m w' = (c : Chassis) → w ≡ words c → ((k : ℕ) → k < most_cards → CellFits (cell_of c k r.block))
       → (c.block r.block).owner ≡ owner
-      → w' ≡ words (block_changed c r.block (seen_below (m c) t (c.block r.block) r n))
+      → w' ≡ words (block_changed c r.block (seen_below m t (c.block r.block) r n))
 
-  pub seen_none : Seen w (λ _. 0)
+  pub seen_none : Seen 0 w
   seen_none c e f o =
       let b = r.block in
       let B = c.block b in
       e ∙ ap (λ (g : ℕ → Block). words (blocks_changed c g)) (sym (replace-own c.block b))
       ∙ ap (λ (g : ℕ → Cell). words (block_changed c b (with_cells B g))) (below_none (sees t B r n) B.cell)
 
-  pub seen_all : (w' : List ℕ) (m : ℕ) → m ≡ cards_of w → Seen w' (λ _. m) → Seen w' (λ c. c.cards)
-  seen_all w' m em s c e f o =
-      s c e f o ∙ ap (λ k. words (block_changed c r.block (seen_below k t (c.block r.block) r n))) (em ∙ cards-of c w e)
-
-  pub seen_more : (w₁ w₂ : List ℕ) (m : ℕ) (x y : Cell) → m < most_cards → r.block < most_blocks → Seen w₁ (λ _. m)
+  pub seen_more : (w₁ w₂ : List ℕ) (m : ℕ) (x y : Cell) → m < most_cards → r.block < most_blocks → Seen m w₁
       → x ≡ cell_at w₁ m r.block → ((B : Block) → B.owner ≡ owner → B.cell m ≡ x → y ≡ sees t B r n m)
-      → w₂ ≡ put_cell w₁ m r.block y → Seen w₂ (λ _. m + 1)
+      → w₂ ≡ put_cell w₁ m r.block y → Seen (m + 1) w₂
   seen_more w₁ w₂ m x y hm hb s ex ey e₂ c e f o =
       let b = r.block in
       let B = c.block b in

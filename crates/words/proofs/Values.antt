@@ -7,7 +7,7 @@ use mathlib.Core.Path.{sym, ap, subst}
 use lib.Dec.{ltb}
 use Rattle.rules.specs.Numbers.{most_cards, most_blocks}
 use Rattle.rules.specs.Chassis.{Block, Chassis, cell_of, idle, fresh_block, message_of}
-use Rattle.rules.specs.Answers.{value_of, Result, Reason, refused_by}
+use Rattle.rules.specs.Answers.{value_of, Step, Reason, refused_by}
 use Rattle.rules.specs.Order.{turn, order_head, order}
 use Rattle.rules.specs.Events.{live, deliver, effect, step}
 use Rattle.rules.specs.declared.Cell.{Cell}
@@ -21,7 +21,7 @@ use Rattle.words.specs.Words.{cell_at, block_of, view}
 use Rattle.words.specs.Claims.{ValueFits}
 
 -- a refusal has value 0
-first-reason : (c : Chassis) (rs : List Reason) (done : Result) → value_of done.answer < 2 ^ 32 → value_of (refused_by c rs done).answer < 2 ^ 32
+first-reason : (c : Chassis) (rs : List Reason) (done : Step) → value_of done.answer < 2 ^ 32 → value_of (refused_by c rs done).answer < 2 ^ 32
 unfolding refused_by
 first-reason c [] done h = h
 first-reason c (r ∷ rs) done h = test r.holds (λ e. rw e (omega arith)) (λ e. rw e (first-reason c rs done h))

@@ -1,5 +1,5 @@
 -- What is proved of the words of a chassis. Each claim is proved under its own name, in small letters, in proofs/.
-use Rattle.std.specs.Prelude.{ℕ, ◌^◌, ◌≤◌, ◌<◌, true, List, ◌≡◌, length, get_or}
+use Rattle.std.specs.Prelude.{Ok, ℕ, ◌^◌, ◌≤◌, ◌<◌, true, List, ◌≡◌, length, get_or}
 use Rattle.rules.specs.Numbers.{most_cards, most_blocks, mask_bits, room}
 use Rattle.rules.specs.Chassis.{Block, Chassis, idle, fresh_block, unused_request, unused_message}
 use Rattle.rules.specs.Answers.{value_of}
@@ -9,7 +9,6 @@ use Rattle.rules.specs.declared.Edition.{Edition}
 use Rattle.rules.specs.declared.Cell.{Cell}
 use Rattle.rules.specs.declared.Request.{Request}
 use Rattle.rules.specs.declared.Message.{Message}
-use Rattle.rules.specs.declared.Answer.TheVariants.{Done}
 use Rattle.rules.specs.declared.Event.{Event}
 use Rattle.words.specs.Layout.{all_words}
 use Rattle.words.specs.Words.{words, view, formed}
@@ -65,7 +64,7 @@ pub record FormedSays : Type 0 where
 
 -- an accepted Start makes formed words; an event leaves them formed
 abbrev pub StartForms : Type 0
-StartForms = (e : Edition) (cards blocks v : ℕ) → (start e cards blocks).answer ≡ Done v → formed (words (start e cards blocks).after) ≡ true
+StartForms = (e : Edition) (cards blocks v : ℕ) → (start e cards blocks).answer ≡ Ok v → formed (words (start e cards blocks).after) ≡ true
 
 abbrev pub StepForms : Type 0
 StepForms = (w : List ℕ) (e : Event) → EventFits e → formed w ≡ true → formed (words (step (view w) e).after) ≡ true

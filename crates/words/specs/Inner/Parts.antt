@@ -1,17 +1,16 @@
 -- Events on formed words, and the parts that they are made of.
 use Rattle.std.specs.Prelude.{ℕ, zero, suc, ◌+◌, cond, List, ◌≡◌, get_or, set, ltb}
 use Rattle.std.proofs.lemmas.List.Edits.{sets}
-use Rattle.rules.specs.Answers.{Result, refused_by}
+use Rattle.rules.specs.Answers.{Step, refused_by}
 use Rattle.rules.specs.Chassis.{Block, Chassis, a_block}
-use Rattle.rules.specs.Order.{upshot_of, sees}
+use Rattle.rules.specs.Order.{sees}
 use Rattle.rules.specs.Events.{reasons, effect}
 use Rattle.rules.specs.declared.OrderNo.{OrderNo}
-use Rattle.rules.specs.declared.Home.{Home}
 use Rattle.rules.specs.declared.Cell.{Cell}
 use Rattle.rules.specs.declared.Request.{Request}
 use Rattle.rules.specs.declared.Message.{Message}
 use Rattle.rules.specs.declared.Turn.{Turn}
-use Rattle.rules.specs.declared.Answer.{Answer}
+use Rattle.rules.specs.Answers.{Answer}
 use Rattle.rules.specs.declared.Event.{Event}
 use Rattle.words.specs.Layout.{home_place, cell_place, request_place, message_place}
 use Rattle.words.specs.Words.{home_row, cell_row, request_row, message_row, words, view}
@@ -19,7 +18,7 @@ use Rattle.words.specs.Words.{home_row, cell_row, request_row, message_row, word
 -- An event on formed words
 
 -- the rules' step without its test of 15
-unfoldable pub act : Chassis → Event → Result
+unfoldable pub act : Chassis → Event → Step
 act c e = refused_by c (reasons c e) (effect c e)
 
 pub record Does (w : List ℕ) (e : Event) (r : Answer) (w' : List ℕ) : Type 0 where
@@ -30,18 +29,6 @@ pub record Does (w : List ℕ) (e : Event) (r : Answer) (w' : List ℕ) : Type 0
 
 abbrev pub Becomes : List ℕ → List ℕ → (Chassis → Chassis) → Type 0
 Becomes w w' f = (c : Chassis) → w ≡ words c → w' ≡ words (f c)
-
--- block B has this part of home
-pub record HomeIs (B : Block) (h : Home) : Type 0 where
-  pub memory : B.memory ≡ h.memory
-  pub owner : B.owner ≡ h.owner
-  pub sharers : B.sharers ≡ h.sharers
-
--- home's part h after turn t of card q
-pub record HomeAfter (t : Turn) (B : Block) (q : ℕ) (h : Home) : Type 0 where
-  pub memory : h.memory ≡ (upshot_of t).memory B q
-  pub owner : h.owner ≡ (upshot_of t).owner B q
-  pub sharers : h.sharers ≡ (upshot_of t).sharers B q
 
 -- the cards below m have seen request r
 abbrev pub seen_below : ℕ → Turn → Block → Request → OrderNo → Block

@@ -1,7 +1,6 @@
--- `events::load` does what `cells::load` does on formed words, and answers 15 to others.
-use mathlib.Core.Path.{sym, ◌∙◌}
+-- `events::load`: what is done on formed words, and 15 for others.
 use Rattle.engine.proofs.Promised.{answers-formed}
 use Rattle.engine.proofs.events.load.Goals as goal
 
-pub returns-then-is_formed : goal.returns-then-is_formed
-returns-then-is_formed c = answers-formed _ _ _ _ (sym c.is_formed.ensures ∙ c.if-is_formed.true) c.load.ensures
+pub returns : goal.returns
+returns c = answers-formed _ _ _ _ c.in_ok-of.ensures.1 (rw c.in_ok-of.ensures.0 at c.load.ensures)

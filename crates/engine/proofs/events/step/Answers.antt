@@ -1,7 +1,7 @@
--- `events::step` does what `events::act` does on formed words, and answers 15 to others.
-use mathlib.Core.Path.{sym, ◌∙◌}
+-- `events::step`: what is done on formed words, and 15 for others.
+use mathlib.Core.Path.{sym}
 use Rattle.engine.proofs.Promised.{answers-formed}
 use Rattle.engine.proofs.events.step.Goals as goal
 
-pub returns-then-is_formed : goal.returns-then-is_formed
-returns-then-is_formed c = answers-formed _ _ _ _ (sym c.is_formed.ensures ∙ c.if-is_formed.true) c.act.ensures
+pub returns : goal.returns
+returns c = rw (c.state-1.given.1 (sym c.act.ensures.same_words)) (answers-formed _ _ _ _ c.in_ok-of.ensures.1 c.act.ensures.done)

@@ -10,7 +10,7 @@ returns-then-card-cards c =
     rw (
       lt-ltb _ _ c.if-card-cards.true,
       c.row_is.ensures,
-      c.cell_row.ensures,
+      c.row.ensures,
       c.ok_cell.ensures (edition_of c.args.s.now) c.states.ensures,
       c.last.ensures,
       c.cell_at-x.ensures,

@@ -1,18 +1,15 @@
 -- `formed::is_formed`: the tests of all items are the test of 15.
-use mathlib.Core.Path.{sym, ◌∙◌}
-use Rattle.words.proofs.Tested.{head-cards, is-formed, not-formed}
+use Rattle.std.proofs.Common.{length, ap, ◌∙◌}
+use Rattle.words.specs.Words.{formed}
+use Rattle.words.specs.Inner.Tested.{head_test}
+use Rattle.words.proofs.Tested.{is-formed, not-formed}
 use Rattle.engine.proofs.formed.is_formed.Goals as goal
 
-pub blocks_formed-requires : goal.blocks_formed-requires
-blocks_formed-requires c = head-cards _ (sym c.head_formed.ensures ∙ c.if-head_formed.true)
+pub returns-in-Some : goal.returns-in-Some
+returns-in-Some c =
+    let same = c.in-Some.ensures.1 in
+    is-formed _ _ _ _ (ap length same ∙ c.told-s) (ap head_test same ∙ c.in-Some.ensures.0)
+    c.blocks_formed.ensures c.places_formed.ensures c.places_formed-in-Some.ensures ∙ ap formed same
 
-pub line_formed-requires : goal.line_formed-requires
-line_formed-requires c = head-cards _ (sym c.head_formed.ensures ∙ c.if-head_formed.true)
-
-pub returns-then-head_formed : goal.returns-then-head_formed
-returns-then-head_formed c =
-    is-formed _ _ _ _ c.sized.ensures (sym c.head_formed.ensures ∙ c.if-head_formed.true)
-    c.blocks_formed.ensures c.line_formed.ensures c.pool_formed.ensures
-
-pub returns : goal.returns
-returns c = not-formed _ c.sized.ensures (sym c.head_formed.ensures ∙ c.if-head_formed.false)
+pub returns-in-None : goal.returns-in-None
+returns-in-None c = not-formed _ c.told-s c.in-None.ensures

@@ -1,13 +1,14 @@
 -- `looks::counts`: 15 first, then what there is.
-use mathlib.Core.Path.{sym, ◌∙◌}
+use Rattle.std.proofs.lemmas.Result.{err_from_is_err_and}
 use Rattle.engine.proofs.Looked.{not-formed, counts-seen}
 use Rattle.engine.proofs.looks.counts.Goals as goal
 
-pub returns-then-not-is_formed : goal.returns-then-not-is_formed
-returns-then-not-is_formed c = not-formed _ _ (sym c.is_formed.ensures ∙ c.if-not-is_formed.true)
+pub returns-in_err-of : goal.returns-in_err-of
+returns-in_err-of c =
+    let p = err_from_is_err_and c.from_residual.result c.from_residual.ensures.1 in
+    rw (p.1, p.2, c.in_err-of.ensures.1) (not-formed _ _ c.in_err-of.ensures.0)
 
 pub returns : goal.returns
 returns c =
-    let f = sym c.is_formed.ensures ∙ c.if-not-is_formed.false in
-    counts-seen _ f _ _ _ _ _ _ c.edition.ensures c.cards.ensures c.blocks-2.ensures c.waiting.ensures
-    c.pooled.ensures c.last-last.ensures
+    counts-seen _ c.in_ok-of.ensures.1 _ _ _ _ _ _ c.edition.ensures c.cards.ensures c.blocks-2.ensures c.waiting.ensures
+    c.pooled.ensures c.last.ensures

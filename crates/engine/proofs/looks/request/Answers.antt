@@ -1,23 +1,15 @@
 -- `looks::request`: 15 first, then the position.
-use mathlib.Core.Path.{sym, ◌∙◌}
-use native.Mathlib.Omega.{arith}
-use Rattle.words.proofs.Does.{line_room}
+use Rattle.std.proofs.lemmas.Result.{err_from_is_err_and}
 use Rattle.engine.proofs.Looked.{not-formed, no-request, request-seen}
 use Rattle.engine.proofs.looks.request.Goals as goal
 
-pub returns-then-not-is_formed : goal.returns-then-not-is_formed
-returns-then-not-is_formed c = not-formed _ _ (sym c.is_formed.ensures ∙ c.if-not-is_formed.true)
+pub returns-in_err-of : goal.returns-in_err-of
+returns-in_err-of c =
+    let p = err_from_is_err_and c.from_residual.result c.from_residual.ensures.1 in
+    rw (p.1, p.2, c.in_err-of.ensures.1) (not-formed _ _ c.in_err-of.ensures.0)
 
 pub returns-then-waiting-position : goal.returns-then-waiting-position
-returns-then-waiting-position c =
-    no-request _ (sym c.is_formed.ensures ∙ c.if-not-is_formed.false) _ _ c.waiting.ensures c.if-waiting-position.true
-
-pub request_at-requires : goal.request_at-requires
-request_at-requires c =
-    let r = line_room _ (sym c.is_formed.ensures ∙ c.if-not-is_formed.false) in
-    omega (arith, r, c.waiting.ensures, c.if-waiting-position.false)
+returns-then-waiting-position c = no-request _ c.in_ok-of.ensures.1 _ _ c.waiting.ensures c.if-waiting-position.true
 
 pub returns : goal.returns
-returns c =
-    request-seen _ (sym c.is_formed.ensures ∙ c.if-not-is_formed.false) _ _ c.waiting.ensures c.if-waiting-position.false
-    _ c.request_at.ensures
+returns c = request-seen _ c.in_ok-of.ensures.1 _ _ c.waiting.ensures c.if-waiting-position.false _ c.request_at.ensures

@@ -1,35 +1,38 @@
--- `rejoin::leave_line`: the card's requests have left the places before the one reached.
+-- `rejoin::leave_line`: the card's requests have left the places from the one reached on.
+use Prim.Native.Nat.{◌+◌, ◌-◌}
 use native.Mathlib.Omega.{arith}
-use Rattle.words.proofs.Rejoined.{leaves_none, leaves-room, leaves-pass, leaves-out, leaves-fewer, leaves_all}
+use mathlib.Core.Path.{◌≡◌, subst}
+use Rattle.words.proofs.Does.{line_room}
+use Rattle.words.proofs.Rejoined.{Leaves, leaves_none, leaves-room, leaves-pass, leaves-out, leaves_all}
 use Rattle.engine.proofs.rejoin.leave_line.Goals as goal
 
-pub loop-i-init : goal.loop-i-init
-loop-i-init c = leaves_none _ _ c.requires
+pub overflow_step-place : goal.overflow_step-place
+overflow_step-place c = omega (arith, line_room _ c.requires, c.waiting-place.ensures)
 
-pub request_at-r-requires : goal.request_at-r-requires
-request_at-r-requires c = omega (arith, leaves-room _ _ _ _ c.loop-i.invariant)
+pub loop-place-init : goal.loop-place-init
+loop-place-init c = rw c.waiting-place.ensures (leaves_none _ c.requires _)
 
-pub remove_request-requires : goal.remove_request-requires
-remove_request-requires c =
-    (omega arith, leaves-room _ _ _ _ c.loop-i.invariant)
+pub request_at-requires : goal.request_at-requires
+request_at-requires c = omega (arith, line_room _ c.requires)
 
-pub loop-i-smaller-then-r-card : goal.loop-i-smaller-then-r-card
-loop-i-smaller-then-r-card c =
-    let inv = c.loop-i.invariant in
-    let r = c.request_at-r.ensures in
-    let fewer = leaves-fewer _ _ _ _ inv (omega arith) _ r c.if-r-card.true _ c.remove_request.ensures in
-    omega arith
+pub remove-requires : goal.remove-requires
+remove-requires c =
+    let up : c.loop-place.place ≡ c.loop-place.place - 1 + 1 = omega arith in
+    leaves-room _ c.requires _ _ _ (subst (Leaves c.args.s.now c.args.card c.loop-place.s) up c.loop-place.invariant) (omega arith)
 
-pub loop-i-preserved-then-r-card : goal.loop-i-preserved-then-r-card
-loop-i-preserved-then-r-card c =
-    let inv = c.loop-i.invariant in
-    let r = c.request_at-r.ensures in
-    leaves-out _ _ _ _ inv (omega arith) _ r c.if-r-card.true _ c.remove_request.ensures
+pub loop-place-preserved : goal.loop-place-preserved
+loop-place-preserved c =
+    let up : c.loop-place.place ≡ c.loop-place.place - 1 + 1 = omega arith in
+    leaves-pass _ c.requires _ _ _ (subst (Leaves c.args.s.now c.args.card c.loop-place.s) up c.loop-place.invariant) (omega arith)
+    _ c.request_at.ensures c.if-request_at-card.false
 
-pub loop-i-preserved : goal.loop-i-preserved
-loop-i-preserved c =
-    let inv = c.loop-i.invariant in
-    leaves-pass _ _ _ _ inv (omega arith) _ c.request_at-r.ensures c.if-r-card.false
+pub loop-place-preserved-then-request_at-card : goal.loop-place-preserved-then-request_at-card
+loop-place-preserved-then-request_at-card c =
+    let up : c.loop-place.place ≡ c.loop-place.place - 1 + 1 = omega arith in
+    leaves-out _ c.requires _ _ _ (subst (Leaves c.args.s.now c.args.card c.loop-place.s) up c.loop-place.invariant) (omega arith)
+    _ c.request_at.ensures c.if-request_at-card.true _ c.remove.ensures
 
 pub returns : goal.returns
-returns c = leaves_all _ _ _ _ c.loop-i.invariant (omega arith)
+returns c =
+    let last : c.loop-place.place ≡ 0 = omega arith in
+    leaves_all _ c.requires c.args.card _ (subst (Leaves c.args.s.now c.args.card c.loop-place.s) last c.loop-place.invariant)
