@@ -133,11 +133,15 @@ def function_at(text, line):
     return next((name for name, first, last in function_spans(text) if first <= line <= last), None)
 
 
-def type_at(text, function):
-    """The type of whose methods a function is one, or none."""
-    lines = text.split("\n")
-    first = next((first for name, first, _ in function_spans(text) if name == function), 0)
-    for line in reversed(lines[: max(first - 1, 0)]):
+def span_at(text, line):
+    """The first and the last line of the function that a line stands in, or none."""
+    return next(((first, last) for _, first, last in function_spans(text) if first <= line <= last), None)
+
+
+def type_at(text, number):
+    """The type of whose methods that function is one in which a line stands, or none."""
+    first = (span_at(text, number) or (0, 0))[0]
+    for line in reversed(text.split("\n")[: max(first - 1, 0)]):
         if line == "}":
             return None
         if found := IMPL.match(line):
@@ -228,16 +232,18 @@ def waits(log, function):
     return function in CALLS.findall(log)
 
 
-def fails(found, file, text, function, gone=()):
-    """Whether one of these is of the function: in its own proof, or in its source. A method's proof stands in a folder of its type's, below
+def fails(found, file, text, line, gone=()):
+    """Whether one of these is of the function that a line of a source stands in: in its own proof, or in its source. A method's proof stands in a folder of its type's, below
     that of the type's module. Where an answer of the function's lost its goal, a goal that is open shows nothing: it may be the same one
     under another name."""
     module = file[len("src/"): -len(".rt")]
-    kind = type_at(text, function)
+    kind, span, function = type_at(text, line), span_at(text, line), function_at(text, line)
+    if not span:
+        return False
     above = rf"(?:\S+/)?{kind}\w*/" if kind else "" if module in ("lib", "main") else rf"{re.escape(module)}/"
     proof = re.compile(rf"proofs/{above}{re.escape(function)}/")
     lost = any(proof.match(one.file) for one in gone)
     return any(
-        proof.match(one.file) or (one.file == file and function_at(text, one.line) == function and not (lost and OPEN.search(one.words)))
+        proof.match(one.file) or (one.file == file and span[0] <= one.line <= span[1] and not (lost and OPEN.search(one.words)))
         for one in found
     )

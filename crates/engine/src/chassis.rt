@@ -24,7 +24,7 @@ pub(crate) struct Chassis<'a> {
 impl<'a> View<'a> {
     // The chassis of these words, or refusal 15.
     pub(crate) fn of(words: &'a [u64; WORDS]) -> Result<View<'a>, Refusal>
-        ensures { MatchResult result (λ view. (view.words ≡ words.entry) × (formed words.now ≡ true)) (λ x. (formed words.now ≡ false) × (x ≡ IllFormed)) }
+        ensures { MatchResult result (λ v. (v.words ≡ words.entry) × (formed words.now ≡ true)) (λ x. (formed words.now ≡ false) × (x ≡ IllFormed)) }
     {
         if is_formed(words) {
             Ok(View { words })

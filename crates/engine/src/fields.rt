@@ -44,6 +44,7 @@ const VALUES: u64 = 4294967296;
 
 // The header: a function for each word, by its name, since one that takes the word's index is `s[AT]` again.
 
+// A word that is no edition's number is MOSI, as `edition_of` has it, so `TryFrom` would be asked for nothing.
 pub(crate) fn edition(s: &[u64; WORDS]) -> Edition
     ensures { result ≡ edition_of s.now }
 {

@@ -90,7 +90,7 @@ fn cells_formed(s: &[u64; WORDS], block: u8, cards: u64) -> bool
     (0..MOST_CARDS).all(|card| cell_formed(s, card, block, cards))
 }
 
-// The cells of a block that is not there: a test of its own, which knows them all to be idle, is half as long.
+// The cells of a block that is not there: a test of its own, which reads no cell, since all are idle.
 fn cells_unused(s: &[u64; WORDS], block: u8) -> bool
     ensures { result ≡ all most_cards (cell_test s.now 0 block) }
 {

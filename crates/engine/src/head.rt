@@ -47,7 +47,7 @@ impl View<'_> {
     }
 }
 
-// The owner's cell, or an idle one where home is the owner.
+// The owner's cell, or an idle one where home is the owner. Another byte is no card, and a chassis says nothing of it.
 fn owner_cell(s: &[u64; WORDS], block: u8, owner: u8) -> Cell
     requires { (block < most_blocks) × (home_or_card most_cards owner ≡ true) }
     ensures { result ≡ ((view s.now).block block).cell owner }

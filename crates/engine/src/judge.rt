@@ -15,7 +15,8 @@ use rules::numbers::{GETS, HOME, LAST_NUMBER, PUTX, ROOM};
 use rules::{Edition, Refusal, Request, Turn, table};
 use words::layout::WORDS;
 
-// That a request is the one at the head is a fact of it and of the words together, so it is asked for and is no type's.
+// That a request is the one at the head is asked for four times: a struct of the request and a view, or of the request and a chassis, would be two
+// types for that one fact, and is no plainer.
 impl View<'_> {
     // Refusals 12, 9, 13 and 10, in this order; then the turn.
     pub(crate) fn judge(self, request: Request) -> Result<Turn, Refusal>
@@ -50,7 +51,7 @@ impl View<'_> {
     }
 }
 
-// Some card waits for data of this block.
+// Some card waits for data of this block. There is no more room than for so many cards: a range of bytes counts them.
 fn held(s: &[u64; WORDS], block: u8) -> bool
     requires { (cards_of s.now ≤ most_cards) × (block < most_blocks) }
     ensures { result ≡ held (cards_of s.now) ((view s.now).block block) }

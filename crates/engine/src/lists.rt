@@ -7,7 +7,18 @@ ghost use Rattle.words.specs.Layout.{all_words, waiting_at, pooled_at, line_from
 ghost use Rattle.words.specs.Words.{cards_of, blocks_of, last_of, request_at, message_at};
 ghost use Rattle.words.specs.Inner.Parts.{Becomes, closing};
 ghost use Rattle.words.specs.Inner.Tested.{request_test, message_test};
-ghost use Rattle.engine.specs.Inner.Places.{Places, count_of, place_of, put_place, with_request, without_request, with_message, without_message, request_places, message_places};
+ghost use Rattle.engine.specs.Inner.Places.{
+  Places,
+  count_of,
+  place_of,
+  put_place,
+  with_request,
+  without_request,
+  with_message,
+  without_message,
+  request_places,
+  message_places,
+};
 
 use crate::fields::{Item, message_at, pooled, put, request_at, set_pooled, set_waiting, waiting};
 use crate::formed::Headed;
@@ -157,7 +168,8 @@ impl Waits for Message {
     ghost laws = { message_places };
 }
 
-// An item's words at a place.
+// An item's words at a place. A place, a count below the room and the words to close up are bounds of stores, as in `fields`: beyond them the
+// promise is not true.
 fn put_at<T: Waits>(s: &mut [u64; WORDS], place: u8, item: T)
     requires { place < room }
     ensures { s.new ≡ put_place T.row_of T.base s.old place item }

@@ -26,7 +26,7 @@ pub fn counts(state: &[u64; WORDS]) -> Result<Seen, Refusal>
     }))
 }
 
-// A message of the pool.
+// A message of the pool. This look and the next are two: one over what waits would take the case of `Seen` and the look with it.
 pub fn message(state: &[u64; WORDS], position: u8) -> Result<Seen, Refusal>
     ensures { result ≡ looks state.now (message position) }
 {

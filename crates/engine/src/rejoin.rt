@@ -41,7 +41,7 @@ fn leave_line(s: &mut [u64; WORDS], card: u8)
     }
 }
 
-// The card leaves the blocks that are there: home's part first, then its cell.
+// The card leaves the blocks that are there: home's part first, then its cell. Its bounds are those of the stores (`put_cell`, `put_home`).
 fn leave_blocks(s: &mut [u64; WORDS], card: u8)
     requires { (card < most_cards) × (blocks_of s.old ≤ most_blocks) }
     ensures { BecomesIf BlocksFit s.old s.new (λ c. blocks_left c card c.blocks) }
@@ -60,8 +60,8 @@ fn home_without(home: Home, card: u8) -> Home
 {
     let owner = if home.owner == card { HOME } else { home.owner };
     Home {
-        memory: home.memory,
         owner,
         sharers: without(home.sharers, only(card)),
+        ..home
     }
 }

@@ -64,7 +64,8 @@ fn reader_sees(turn: Turn, cell: Cell) -> Cell
     }
 }
 
-// What a card makes of the request. Turn, number and head are three here and in `pool_after` alone: the other parts of a turn take no number.
+// What a card makes of the request. Turn, number and head stay three values: one struct of them would be opened again in each of the three
+// functions that take them, and is no plainer.
 #[tactic(auto, unfolding(rules::specs::Order::sees))]
 fn seen(turn: Turn, number: OrderNo, head: Head, card: u8, cell: Cell) -> Cell
     ensures { (B : Block) → B.owner ≡ head.home.owner → B.cell card ≡ cell → result ≡ sees turn B head.request number card }

@@ -169,11 +169,9 @@ impl Head {
         let before = request.retry;
         let retry = RetryNo(before.0 + 1);
         Request {
-            card: request.card,
-            block: request.block,
-            kind: request.kind,
             mask: self.retry_mask(retry),
             retry,
+            ..request
         }
     }
 }

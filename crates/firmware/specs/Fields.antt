@@ -22,9 +22,9 @@ fields (Happens (Deliver i)) = deliver_tag ∷ 0 ∷ 0 ∷ 0 ∷ 0 ∷ 0 ∷ i �
 fields (Happens (Copy i)) = copy_tag ∷ 0 ∷ 0 ∷ 0 ∷ 0 ∷ 0 ∷ i ∷ []
 fields (Happens (Rejoin k)) = rejoin_tag ∷ k ∷ 0 ∷ 0 ∷ 0 ∷ 0 ∷ 0 ∷ []
 
--- the seven numbers by name, where there is a tag alone; and in order
-abbrev pub tagged : ℕ → Fields
-tagged tag = record { tag = tag; card = 0; block = 0; kind = 0; mask = 0; value = 0; position = 0 }
+-- the seven numbers by name, where there is a tag with a card and a block alone; and in order
+abbrev pub of_cell : ℕ → ℕ → ℕ → Fields
+of_cell tag card block = record { tag = tag; card = card; block = block; kind = 0; mask = 0; value = 0; position = 0 }
 
 abbrev pub in_order : Fields → List ℕ
 in_order f = f.tag ∷ f.card ∷ f.block ∷ f.kind ∷ f.mask ∷ f.value ∷ f.position ∷ []

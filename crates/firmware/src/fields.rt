@@ -4,7 +4,7 @@
 ghost use Rattle.std.specs.Prelude.{◌≡◌};
 ghost use Rattle.journal.specs.declared.Record.TheVariants.{Happens};
 ghost use Rattle.journal.specs.Tags.{byte_of};
-ghost use Rattle.firmware.specs.Fields.{fields, tagged, in_order, named_by, opening_by};
+ghost use Rattle.firmware.specs.Fields.{fields, of_cell, in_order, named_by, opening_by};
 
 use journal::tags::Tag;
 use journal::{Damage, Record};
@@ -25,14 +25,14 @@ pub(crate) struct Fields {
     pub(crate) position: u8,
 }
 
-// The fields of a tag alone.
-fn tagged(tag: Tag) -> Fields
-    ensures { result ≡ tagged (byte_of tag) }
+// The fields of a tag, a card and a block alone.
+fn of_cell(tag: Tag, card: u8, block: u8) -> Fields
+    ensures { result ≡ of_cell (byte_of tag) card block }
 {
     Fields {
         tag: tag.into(),
-        card: 0,
-        block: 0,
+        card,
+        block,
         kind: 0,
         mask: 0,
         value: 0,
@@ -67,10 +67,8 @@ impl From<Record> for Fields {
                 cards,
                 blocks,
             } => Fields {
-                card: cards,
-                block: blocks,
                 kind: edition.into(),
-                ..tagged(Tag::Opening)
+                ..of_cell(Tag::Opening, cards, blocks)
             },
             Record::Happens(event) => event.into(),
         }
@@ -82,47 +80,32 @@ impl From<Event> for Fields {
 
     fn from(event: Event) -> Fields {
         match event {
-            Event::Load { card, block } => Fields {
-                card,
-                block,
-                ..tagged(Tag::Load)
-            },
+            Event::Load { card, block } => of_cell(Tag::Load, card, block),
             Event::Store { card, block, value } => Fields {
-                card,
-                block,
                 value,
-                ..tagged(Tag::Store)
+                ..of_cell(Tag::Store, card, block)
             },
-            Event::Drop { card, block } => Fields {
-                card,
-                block,
-                ..tagged(Tag::Drop)
-            },
+            Event::Drop { card, block } => of_cell(Tag::Drop, card, block),
             Event::Ask {
                 card,
                 block,
                 kind,
                 mask,
             } => Fields {
-                card,
-                block,
                 kind,
                 mask,
-                ..tagged(Tag::Ask)
+                ..of_cell(Tag::Ask, card, block)
             },
-            Event::Order => tagged(Tag::Order),
+            Event::Order => of_cell(Tag::Order, 0, 0),
             Event::Deliver { position } => Fields {
                 position,
-                ..tagged(Tag::Deliver)
+                ..of_cell(Tag::Deliver, 0, 0)
             },
             Event::Copy { position } => Fields {
                 position,
-                ..tagged(Tag::Copy)
+                ..of_cell(Tag::Copy, 0, 0)
             },
-            Event::Rejoin { card } => Fields {
-                card,
-                ..tagged(Tag::Rejoin)
-            },
+            Event::Rejoin { card } => of_cell(Tag::Rejoin, card, 0),
         }
     }
 }

@@ -69,7 +69,7 @@ pub struct Home {
     pub sharers: Mask,
 }
 
-// What a card has for a block.
+// What a card has for a block. It awaits number 0 where it awaits none: `no_number`, and words hold it so (`cell_row`).
 #[derive(Clone, Copy)]
 pub struct Cell {
     pub state: u8,

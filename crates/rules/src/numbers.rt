@@ -68,7 +68,7 @@ pub const OI_A: u8 = 13;
 // specs/Order and `takes` of specs/Events define too.
 pub const NONE: u8 = 255;
 
-// The outcomes of Order.
+// The outcomes of Order, and those of Deliver: numbers, since they are the value that an event answers (`Answers`).
 pub const GRANTED: u32 = 1;
 
 pub const TOO_SMALL: u32 = 2;

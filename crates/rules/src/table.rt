@@ -195,7 +195,8 @@ const TABLE: [Row; STATES] = [
     },
 ];
 
-// The row of a state, or an empty one where the byte is none.
+// The row of a state, or an empty one where the byte is none. It is read in its place: indexed as a constant, the table is copied at each look,
+// and the engine takes three times the instructions.
 fn row_of(state: u8) -> Row
     ensures { IsRowOf state result }
 {
@@ -214,6 +215,8 @@ fn place_or(to: Option<u8>, other: u8) -> u8
         None => other,
     }
 }
+
+// The columns, each a function of its own: `EveryEntry` has an entry for each, for any byte.
 
 // The state gives the right to load.
 pub fn loads(state: u8) -> bool
@@ -346,14 +349,15 @@ pub fn leaves_sharers(state: u8) -> bool
     row_of(state).leaves_sharers
 }
 
-// Where an asker goes whose request is granted, or NONE: `granted_cell` of specs/Order, which is defined for every cell, has `none` there.
+// Where an asker goes whose request is granted, or NONE: `granted_cell` of specs/Order and `takes` of specs/Events put it into any cell, so that
+// an Option would be made NONE again at each of its two calls, and is no plainer.
 pub fn granted_to(state: u8) -> u8
     ensures { result ≡ granted_to state }
 {
     place_or(row_of(state).granted_to, NONE)
 }
 
-// Where a card goes whose data comes, or NONE: `takes` of specs/Events, which is defined for every cell, has `none` there.
+// Where a card goes whose data comes, or NONE, as above.
 pub fn filled_to(state: u8) -> u8
     ensures { result ≡ filled_to state }
 {
