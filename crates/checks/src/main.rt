@@ -25,8 +25,8 @@ fn main(rt: HostRuntime) {
     }
 }
 
-// Reads until the room is full, the input ends or a read fails: how many bytes there are. Of the library's methods `read_exact` does not say
-// how many, and `read_to_end` has them on the heap.
+// Reads until the room is full, the input ends or a read fails: how many bytes there are. The bench, which reads so too, is no library of this
+// crate's. Of the library's methods `read_exact` does not say how many, and `read_to_end` has them on the heap.
 fn read_script(from: &mut impl Read, room: &mut [u8]) -> usize
     ensures { result ≤ length room.new }
 {

@@ -1,5 +1,5 @@
 // A chassis: words that are formed. What refusal 15 asks is tested where one is made, and nowhere after it: an event leaves formed words formed.
-ghost use Rattle.std.specs.Prelude.{◌≡◌, true, false, MatchResult};
+ghost use Rattle.std.specs.Prelude.{◌≡◌, true, false, IfOk, IfErr};
 ghost use Rattle.rules.specs.declared.Refusal.TheVariants.{IllFormed};
 ghost use Rattle.words.specs.Words.{formed};
 
@@ -7,7 +7,7 @@ use crate::formed::is_formed;
 use rules::Refusal;
 use words::layout::WORDS;
 
-// A chassis that is lent to be read.
+// A chassis that is lent to be read. The two types differ in how the words are lent, over which no type is generic.
 #[derive(Clone, Copy)]
 pub(crate) struct View<'a> {
     pub(crate) words: &'a [u64; WORDS],
@@ -24,7 +24,8 @@ pub(crate) struct Chassis<'a> {
 impl<'a> View<'a> {
     // The chassis of these words, or refusal 15.
     pub(crate) fn of(words: &'a [u64; WORDS]) -> Result<View<'a>, Refusal>
-        ensures { MatchResult result (λ v. (v.words ≡ words.entry) × (formed words.now ≡ true)) (λ x. (formed words.now ≡ false) × (x ≡ IllFormed)) }
+        ensures made { IfOk result (λ view. (view.words ≡ words.entry) × (formed words.now ≡ true)) }
+        ensures refused { IfErr result (λ x. (formed words.now ≡ false) × (x ≡ IllFormed)) }
     {
         if is_formed(words) {
             Ok(View { words })

@@ -1,4 +1,6 @@
-// The public events: each takes any words, and answers 15 where they are not formed, before all else.
+// The public events: each takes any words, and answers 15 where they are not formed, before all else. Here and below a card and a block stand
+// apart, as the paper's events have them, and so do an opening's edition, cards and blocks: a struct of them would be made and taken apart at
+// each call.
 ghost use Rattle.std.specs.Prelude.{◌≡◌};
 ghost use Rattle.rules.specs.declared.Event.TheVariants.{Load, Store, Drop, Ask, Order, Deliver, Copy, Rejoin};
 ghost use Rattle.engine.specs.Promise.{Answers};

@@ -53,7 +53,7 @@ fn leave_blocks(s: &mut [u64; WORDS], card: u8)
     }
 }
 
-// Home's part of a block without the card: the block goes to home where the card is its owner, and the card is no sharer.
+// Home's part of a block without the card, which has a mask (`only`): the block goes to home where the card is its owner, and the card is no sharer.
 fn home_without(home: Home, card: u8) -> Home
     requires { card < most_cards }
     ensures { result ≡ home_left home card }

@@ -4,4 +4,4 @@ use Rattle.engine.proofs.Promised.{answers-formed}
 use Rattle.engine.proofs.events.step.Goals as goal
 
 pub returns : goal.returns
-returns c = rw (c.state-1.given.1 (sym c.act.ensures.same_words)) (answers-formed _ _ _ _ c.in_ok-of.ensures.1 c.act.ensures.done)
+returns c = rw (c.state-1.given.1 (sym c.act.ensures.same_words)) (answers-formed _ _ _ _ c.in_ok-of.ensures.made.1 c.act.ensures.done)
