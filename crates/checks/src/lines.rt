@@ -9,6 +9,7 @@ const BEFORE_NAME: usize = 3;
 // What a line says.
 #[derive(Clone, Copy)]
 pub(crate) struct Line<'a> {
+    // A byte: `Checks::play` says why.
     pub(crate) letter: u8,
     pub(crate) numbers: [u64; NUMBERS],
     pub(crate) name: &'a [u8],

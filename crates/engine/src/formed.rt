@@ -46,7 +46,7 @@ fn home_or_card(k: u8, cards: u64) -> bool
     (k == HOME) | ((k as u64) < cards)
 }
 
-// A cell of a card that is there, in a chassis of so many states. Order numbers are compared by their words: crate rules derives no comparison
+// A cell of a card that is there, in a chassis of so many states. Order numbers are compared by their words here and below: crate rules derives no comparison
 // for them (`loads-wired`).
 fn ok_cell(x: Cell, states: usize, last: OrderNo) -> bool
     ensures { (e : Edition) → states ≡ states_in e → result ≡ ok_cell e last x }
@@ -83,18 +83,11 @@ fn cell_formed(s: &[u64; WORDS], card: u8, block: u8, cards: u64) -> bool
     row_is(s, p, &[0, 0, 0])
 }
 
-// The cells of a block.
+// The cells of a block that so many cards have cells of: of one that is not there, none.
 fn cells_formed(s: &[u64; WORDS], block: u8, cards: u64) -> bool
     ensures { result ≡ all most_cards (cell_test s.now cards block) }
 {
     (0..MOST_CARDS).all(|card| cell_formed(s, card, block, cards))
-}
-
-// The cells of a block that is not there: a test of its own, which reads no cell, since all are idle.
-fn cells_unused(s: &[u64; WORDS], block: u8) -> bool
-    ensures { result ≡ all most_cards (cell_test s.now 0 block) }
-{
-    (0..MOST_CARDS).all(|card| row_is(s, cell_place(card, block), &[0, 0, 0]))
 }
 
 // Words whose header is formed: they have no more cards than there is room for.
@@ -163,7 +156,7 @@ impl<'a> Headed<'a> {
             let h = home_at(s, block);
             return row_is(s, p, &h.row()) & self.ok_home(h) & cells_formed(s, block, cards(s));
         }
-        row_is(s, p, &[0, HOME as u64, 0]) & cells_unused(s, block)
+        row_is(s, p, &[0, HOME as u64, 0]) & cells_formed(s, block, 0)
     }
 
     // The blocks.

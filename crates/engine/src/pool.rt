@@ -12,7 +12,7 @@ use crate::lists::{push, remove};
 use rules::numbers::{ROOM, STALE, TAKEN};
 use rules::{Answer, Cell, Message, OrderNo, Refusal, table};
 
-// The receiver's cell waits for this very message.
+// The receiver's cell waits for this very message: the numbers are compared by their words, as in `formed`.
 fn is_live(cell: Cell, message: Message) -> bool
     ensures { result ≡ (waits cell.state && same_number cell.awaits message.number) }
 {

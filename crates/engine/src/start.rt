@@ -10,7 +10,7 @@ use rules::numbers::{HOME, MOST_BLOCKS};
 use rules::{Answer, Edition, Home, Refusal};
 use words::layout::WORDS;
 
-// What Start answers, and the words that it makes.
+// What Start answers, and the words that it makes. Two fields and no Result of the words: `Starts` says what the words of a refusal are, too.
 #[derive(Clone, Copy)]
 pub struct Started {
     pub answer: Answer,

@@ -61,6 +61,8 @@ impl TryFrom<u8> for Edition {
 // A set of cards: bit k is card k.
 pub type Mask = u8;
 
+// States, kinds, owners and cards are bytes here and in the crates above: `numbers` says why.
+
 // What home has for a block. The owner is a card or home.
 #[derive(Clone, Copy)]
 pub struct Home {

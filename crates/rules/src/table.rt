@@ -350,7 +350,7 @@ pub fn leaves_sharers(state: u8) -> bool
 }
 
 // Where an asker goes whose request is granted, or NONE: `granted_cell` of specs/Order and `takes` of specs/Events put it into any cell, so that
-// an Option would be made NONE again at each of its two calls, and is no plainer.
+// an Option would be made NONE again at its one call, and is no plainer.
 pub fn granted_to(state: u8) -> u8
     ensures { result ≡ granted_to state }
 {

@@ -27,6 +27,6 @@ returns c =
       ← c.blocks-2.ensures,
       le-ltb _ _ c.if-block-blocks.false,
       c.row_is-2.ensures,
-      c.cells_unused.ensures,
+      c.cells_formed-2.ensures,
       c.home_place-p.ensures,
     )
