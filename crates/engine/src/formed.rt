@@ -46,8 +46,8 @@ fn home_or_card(k: u8, cards: u64) -> bool
     (k == HOME) | ((k as u64) < cards)
 }
 
-// A cell of a card that is there, in a chassis of so many states. Order numbers are compared by their words here and below: crate rules derives no comparison
-// for them (`loads-wired`).
+// A cell of a card that is there, in a chassis of so many states. Order numbers are compared by their words here and below: crate rules derives
+// no comparison for them (`loads-wired`).
 fn ok_cell(x: Cell, states: usize, last: OrderNo) -> bool
     ensures { (e : Edition) → states ≡ states_in e → result ≡ ok_cell e last x }
 {
