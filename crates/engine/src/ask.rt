@@ -13,7 +13,8 @@ use rules::numbers::{GETS, PUTX, ROOM};
 use rules::{Answer, Cell, Mask, OrderNo, Refusal, Request, RetryNo, table};
 
 impl Chassis<'_> {
-    // Refusals 1 and 2 first, at the look-up.
+    // Refusals 1 and 2 first, at the look-up. Into a run's loop whole, as `act`.
+    #[inline(always)]
     pub(crate) fn ask(&mut self, card: u8, block: u8, kind: u8, mask: Mask) -> Answer
         ensures same_words { self.new.words.ghost_name ≡ self.old.words.ghost_name }
         ensures done { Does self.old.words.now (Ask card block kind mask) result self.new.words.now }
@@ -23,6 +24,7 @@ impl Chassis<'_> {
     }
 
     // The cell is there: refusals 5, 6, 4 and 7, in this order.
+    #[inline(always)]
     fn ask_from(&mut self, card: u8, block: u8, kind: u8, mask: Mask, cell: Cell) -> Answer
         requires { Ok cell ≡ sought self.old.words.now card block }
         ensures same_words { self.new.words.ghost_name ≡ self.old.words.ghost_name }

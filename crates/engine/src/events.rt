@@ -10,7 +10,8 @@ use crate::chassis::{Chassis, View};
 use rules::{Answer, Event, Mask};
 use words::layout::WORDS;
 
-// Any event.
+// Any event. It goes whole into each event's function, where one case of `act` is left of it.
+#[inline(always)]
 pub fn step(state: &mut [u64; WORDS], event: Event) -> Answer
     ensures { Answers state.old event result state.new }
 {
@@ -82,7 +83,8 @@ pub fn rejoin(state: &mut [u64; WORDS], card: u8) -> Answer
 }
 
 impl Chassis<'_> {
-    // What an event does.
+    // What an event does. It goes into a run's loop whole: a call at each record would pass the event through memory.
+    #[inline(always)]
     pub(crate) fn act(&mut self, event: Event) -> Answer
         ensures same_words { self.new.words.ghost_name ≡ self.old.words.ghost_name }
         ensures done { Does self.old.words.now event result self.new.words.now }

@@ -83,11 +83,16 @@ fn cell_formed(s: &[u64; WORDS], card: u8, block: u8, cards: u64) -> bool
     row_is(s, p, &[0, 0, 0])
 }
 
-// The cells of a block that so many cards have cells of: of one that is not there, none.
+// The cells of a block that so many cards have cells of: of one that is not there, none. Here and below each is tested with `&`: with `all`,
+// which ends at the first that fails, the compiler tests word by word, and the whole test takes twice the instructions.
 fn cells_formed(s: &[u64; WORDS], block: u8, cards: u64) -> bool
     ensures { result ≡ all most_cards (cell_test s.now cards block) }
 {
-    (0..MOST_CARDS).all(|card| cell_formed(s, card, block, cards))
+    let mut ok = true;
+    for card in 0..MOST_CARDS {
+        ok = ok & cell_formed(s, card, block, cards);
+    }
+    ok
 }
 
 // Words whose header is formed: they have no more cards than there is room for.
@@ -163,7 +168,11 @@ impl<'a> Headed<'a> {
     fn blocks_formed(self) -> bool
         ensures { result ≡ all most_blocks (block_test self.entry.state.now) }
     {
-        (0..MOST_BLOCKS).all(|block| self.block_formed(block))
+        let mut ok = true;
+        for block in 0..MOST_BLOCKS {
+            ok = ok & self.block_formed(block);
+        }
+        ok
     }
 
     // A place of the line or of the pool: what waits there, or zeros.
@@ -183,7 +192,11 @@ impl<'a> Headed<'a> {
     fn places_formed<T: Waits>(self) -> bool
         ensures { result ≡ all room (T.tested self.entry.state.now) }
     {
-        (0..ROOM as u8).all(|place| self.place_formed::<T>(place))
+        let mut ok = true;
+        for place in 0..ROOM as u8 {
+            ok = ok & self.place_formed::<T>(place);
+        }
+        ok
     }
 }
 

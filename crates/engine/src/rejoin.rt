@@ -1,16 +1,17 @@
 // Rejoin, on words that are formed: the card's requests leave the line, and it leaves the blocks that are there.
 ghost use Rattle.std.specs.Prelude.{◌≡◌, true, ◌≤◌, ◌<◌};
-ghost use Rattle.rules.specs.Numbers.{most_cards, most_blocks};
+ghost use Rattle.rules.specs.Numbers.{most_cards, most_blocks, room};
 ghost use Rattle.rules.specs.declared.Event.TheVariants.{Rejoin};
-ghost use Rattle.words.specs.Words.{words, view, blocks_of, formed};
-ghost use Rattle.words.specs.Inner.Parts.{Does};
+ghost use Rattle.words.specs.Words.{words, view, blocks_of, waiting_of, formed};
+ghost use Rattle.words.specs.Inner.Parts.{Does, Becomes};
+ghost use Rattle.engine.specs.Inner.Places.{without_request};
 ghost use Rattle.words.specs.Inner.Leaving.{home_left, BlocksFit, blocks_left, line_left, BecomesIf};
 
 use crate::chassis::Chassis;
 use crate::fields::{blocks, cards, home_at, idle, put_cell, put_home, request_at, waiting};
 use crate::lists::remove;
 use crate::masks::{only, without};
-use rules::numbers::HOME;
+use rules::numbers::{HOME, ROOM};
 use rules::{Answer, Home, Refusal, Request};
 use words::layout::WORDS;
 
@@ -29,16 +30,27 @@ impl Chassis<'_> {
     }
 }
 
-// The card's requests leave the line, from the tail on, so that those still to be looked at keep their places.
+// The card's requests leave the line, from the tail on, so that those still to be looked at keep their places. No more wait than there is room
+// for: with the room beside it, no read of a place tests whether its word is there.
 fn leave_line(s: &mut [u64; WORDS], card: u8)
     requires { formed s.old ≡ true }
     ensures { s.new ≡ words (line_left (view s.old) card) }
 {
-    for place in (0..waiting(s) as u8).rev() {
+    for place in (0..(waiting(s) as u8).min(ROOM as u8)).rev() {
         if request_at(s, place).card == card {
-            remove::<Request>(s, place);
+            take_out(s, place);
         }
     }
+}
+
+// A request leaves the line: in a call of its own, since the walk over the line, which rarely comes to one, would else carry along at each place
+// what the removal needs.
+#[inline(never)]
+fn take_out(s: &mut [u64; WORDS], place: u8)
+    requires { (place < waiting_of s.old) × (waiting_of s.old ≤ room) }
+    ensures { Becomes s.old s.new (λ c. without_request c place) }
+{
+    remove::<Request>(s, place);
 }
 
 // The card leaves the blocks that are there: home's part first, then its cell. Its bounds are those of the stores (`put_cell`, `put_home`).

@@ -1,13 +1,13 @@
--- `Headed::places_formed`: each place is tested.
-use Rattle.std.proofs.Common.{◌∙◌, refl, rules}
-use Rattle.std.proofs.lemmas.Iterator.{YieldsList-from_range}
-use Rattle.std.proofs.lemmas.Iterator.Search.{all_from_yields_List}
-use borrow.Author.Tests.{tests}
-use Rattle.rules.specs.Numbers.{room}
-use Rattle.engine.proofs.Ranges.{range-all}
+-- `Headed::places_formed`: the places before `place` are tested.
+use Rattle.std.proofs.Common.{arith}
+use Rattle.engine.proofs.Ranges.{all_none, all_more, all_done}
 use Rattle.engine.proofs.formed.Headed.places_formed.Goals as goal
 
+pub loop-place-init : goal.loop-place-init
+loop-place-init g c = all_none _
+
+pub loop-place-preserved : goal.loop-place-preserved
+loop-place-preserved g c = all_more _ _ _ c.loop-place.invariant _ c.place_formed-ok.ensures
+
 pub returns : goal.returns
-returns g c =
-    let test = g.T.Waits.tested c.args.self.state.now in
-    all_from_yields_List test _ _ c.all.result c.all.ensures.ran (YieldsList-from_range 0 room room refl refl) (λ x b q k. search (rules, tests)) ∙ range-all room test
+returns g c = all_done _ _ _ c.loop-place.invariant _ (omega arith)
