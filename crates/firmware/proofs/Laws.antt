@@ -84,17 +84,17 @@ starts-as e cards blocks n r w' o is a w t = record {
   told = t;
 }
 
-pub starts_named : (e cards blocks n : ℕ) (i : Edition) (r : Answer) (w' : List ℕ) → Ok i ≡ edition_by e → Starts i cards blocks r w' → n ≡ one_number r
+pub starts_named : (e cards blocks n : ℕ) (i : Edition) (w' : List ℕ) → Ok i ≡ edition_by e → Says (λ r. Starts i cards blocks r w') n
     → Says (λ r. StartsByte e cards blocks r w') n
 unfolding start_byte
-starts_named e cards blocks n i r w' k s t =
-    starts-as e cards blocks n r w' (start i cards blocks) (edition_named (λ j. start j cards blocks) _ e i k) s.answer s.after t
+starts_named e cards blocks n i w' k s =
+    starts-as e cards blocks n s.answer w' (start i cards blocks) (edition_named (λ j. start j cards blocks) _ e i k) s.kept.answer s.kept.after s.told
 
-pub starts_none : (e cards blocks n : ℕ) (x : NoEdition) (r : Answer) (w' : List ℕ) → Err x ≡ edition_by e → Starts Msi 0 0 r w' → n ≡ one_number r
+pub starts_none : (e cards blocks n : ℕ) (x : NoEdition) (w' : List ℕ) → Err x ≡ edition_by e → Says (λ r. Starts Msi 0 0 r w') n
     → Says (λ r. StartsByte e cards blocks r w') n
 unfolding start_byte
-starts_none e cards blocks n x r w' k s t =
-    starts-as e cards blocks n r w' (start Msi 0 0) (none_named (λ j. start j cards blocks) _ e x k ∙ sym none-started) s.answer s.after t
+starts_none e cards blocks n x w' k s =
+    starts-as e cards blocks n s.answer w' (start Msi 0 0) (none_named (λ j. start j cards blocks) _ e x k ∙ sym none-started) s.kept.answer s.kept.after s.told
 
 -- the numbers of a record name it
 pub fields_name : FieldsName

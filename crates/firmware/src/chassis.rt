@@ -1,7 +1,7 @@
 // Start and the events, on words that C lends: each answers the number of the engine's answer. Numbers stand for editions, kinds and
 // refusals, since C hands in any byte, and an export may answer no enum: the C interface.
 ghost use Rattle.rules.specs.declared.Event.TheVariants.{Load, Store, Drop, Ask, Order, Deliver, Copy, Rejoin};
-ghost use Rattle.engine.specs.Promise.{Answers};
+ghost use Rattle.engine.specs.Promise.{Answers, Starts};
 ghost use Rattle.firmware.specs.Editions.{StartsByte};
 ghost use Rattle.firmware.specs.Halves.{Says};
 
@@ -16,10 +16,17 @@ pub fn coherence_start(state: &mut [u64; WORDS], edition: u8, cards: u8, blocks:
     ensures { Says (λ r. StartsByte edition cards blocks r state.new) result }
 {
     match Edition::try_from(edition) {
-        Ok(edition) => one_number(start_in(state, edition, cards, blocks)),
+        Ok(edition) => start_one(state, edition, cards, blocks),
         // No edition is refused as no cards are.
-        Err(_) => one_number(start_in(state, Edition::Msi, 0, 0)),
+        Err(_) => start_one(state, Edition::Msi, 0, 0),
     }
+}
+
+// The same, of an edition that there is.
+fn start_one(state: &mut [u64; WORDS], edition: Edition, cards: u8, blocks: u8) -> u64
+    ensures { Says (λ r. Starts edition cards blocks r state.new) result }
+{
+    one_number(start_in(state, edition, cards, blocks))
 }
 
 // A card reads its cell's value, and nothing changes.

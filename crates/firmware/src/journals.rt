@@ -62,7 +62,9 @@ pub fn coherence_write(
         Err(damage) => return refused(damage_no(damage)),
     };
     let written = write(buffer, *place, one);
-    *place = written.unwrap_or(*place);
+    if let Ok(next) = written {
+        *place = next;
+    }
     refused(written_no(written))
 }
 
