@@ -9,19 +9,26 @@ mod named;
 mod play;
 mod report;
 
-use crate::play::Checks;
+use crate::image::fresh;
+use crate::play::{Checks, KEPT};
 use std::io::Read;
+use words::layout::WORDS;
 
 // How many bytes of a script are played; those behind them are not read.
 const SCRIPT_ROOM: usize = 65536;
 
-// Each line of the script in a row. What cannot be told of a line is not told, and the next line is played all the same.
+// Each line of the script in a row; an empty one says nothing.
 fn main(rt: HostRuntime) {
     let mut script = [0u8; SCRIPT_ROOM];
     let length = read_script(&mut rt.stdin(), &mut script);
-    let mut checks = Checks::new();
+    let mut state = fresh(0, 0, 0);
+    let mut expected = fresh(0, 0, 0);
+    let mut kept = [[0u64; WORDS]; KEPT];
+    let mut checks = Checks::new(&mut state, &mut expected, &mut kept);
     for line in script[..length].split(|byte| *byte == b'\n') {
-        let _ = checks.play(&rt, line);
+        if !line.is_empty() {
+            checks.play(&rt, line);
+        }
     }
 }
 

@@ -6,7 +6,6 @@ use journal::numbers::{damage_no, written_no};
 use journal::reading::{place_after, read};
 use journal::writing::write;
 use rules::{Edition, Event};
-use std::io;
 
 // The length of each buffer, and the byte that a fresh one is filled with.
 const ROOM: usize = 16;
@@ -29,7 +28,7 @@ const DAMAGE: [(&str, usize, &[u8]); 6] = [
     ("load cut short", 12, &[16, 0, 2, 255]),
 ];
 
-// Each group in a row. What cannot be told of a record is not told, and the next is told all the same.
+// Each group in a row, told piece by piece: a piece that cannot be told is not told, and the next is told all the same.
 fn main(rt: HostRuntime) {
     for (name, edition) in OPENINGS {
         let opening = Record::Opening {
@@ -37,13 +36,13 @@ fn main(rt: HostRuntime) {
             cards: 8,
             blocks: 32,
         };
-        let _ = tell(&rt, name, 2, opening);
+        tell(&rt, name, 2, opening);
     }
     for (name, at, event) in events() {
-        let _ = tell(&rt, name, at, Record::Happens(event));
+        tell(&rt, name, at, Record::Happens(event));
     }
     for (name, at, bytes) in DAMAGE {
-        let _ = damaged(&rt, name, at, bytes);
+        damaged(&rt, name, at, bytes);
     }
 }
 
@@ -93,40 +92,53 @@ fn store(block: u8, value: u32) -> Event {
 }
 
 // Writes a record at a place of a fresh buffer, and tells the answer, the bytes, and what is read there.
-fn tell(rt: &impl Print, name: &str, at: usize, one: Record) -> io::Result<()> {
+fn tell(rt: &impl Print, name: &str, at: usize, one: Record) {
     let mut buffer = [FILLER; ROOM];
     let answer = write(&mut buffer, at, one);
-    print!(rt; "{name}:")?;
+    begin(rt, name);
     match answer {
-        Ok(place) => print!(rt; " up to {place},")?,
-        Err(_) => print!(rt; " refused {},", written_no(answer))?,
+        Ok(place) => {
+            say(rt, " up to");
+            number(rt, place as u64);
+        }
+        Err(_) => {
+            say(rt, " refused");
+            number(rt, written_no(answer) as u64);
+        }
     }
-    say_read(rt, &buffer, at)
+    say(rt, ",");
+    say_read(rt, &buffer, at);
 }
 
 // Tells what is read of bytes at a place of a buffer.
-fn damaged(rt: &impl Print, name: &str, at: usize, bytes: &[u8]) -> io::Result<()> {
+fn damaged(rt: &impl Print, name: &str, at: usize, bytes: &[u8]) {
     let mut buffer = [FILLER; ROOM];
     for (place, byte) in buffer.iter_mut().skip(at).zip(bytes) {
         *place = *byte;
     }
-    print!(rt; "{name}:")?;
-    say_read(rt, &buffer, at)
+    begin(rt, name);
+    say_read(rt, &buffer, at);
 }
 
 // The bytes of a buffer, what is read at a place of it (a record, nothing more, or the number of the damage), and the place to read at next.
-fn say_read(rt: &impl Print, buffer: &[u8; ROOM], at: usize) -> io::Result<()> {
-    print!(rt; " bytes")?;
+fn say_read(rt: &impl Print, buffer: &[u8; ROOM], at: usize) {
+    say(rt, " bytes");
     for byte in buffer {
-        print!(rt; " {byte}")?;
+        number(rt, *byte as u64);
     }
+    say(rt, ", read");
     let found = read(buffer, at);
     match found {
-        Ok(Some((one, _))) => print!(rt; ", read {}", again(buffer, at, one))?,
-        Ok(None) => print!(rt; ", read end")?,
-        Err(damage) => print!(rt; ", read refused {}", damage_no(damage))?,
+        Ok(Some((one, _))) => say(rt, again(buffer, at, one)),
+        Ok(None) => say(rt, " end"),
+        Err(damage) => {
+            say(rt, " refused");
+            number(rt, damage_no(damage) as u64);
+        }
     }
-    println!(rt; ", place {}", place_after(found, at))
+    say(rt, ", place");
+    number(rt, place_after(found, at) as u64);
+    say(rt, "\n");
 }
 
 // The record that was read is written at its place of a fresh buffer: the same bytes again, or not.
@@ -134,8 +146,25 @@ fn again(buffer: &[u8; ROOM], at: usize, one: Record) -> &'static str {
     let mut again = [FILLER; ROOM];
     let _ = write(&mut again, at, one);
     if again == *buffer {
-        "the same again"
+        " the same again"
     } else {
-        "another"
+        " another"
     }
+}
+
+// The name of a check.
+fn begin(rt: &impl Print, name: &str) {
+    say(rt, name);
+    say(rt, ":");
+}
+
+// A piece of a line.
+fn say(rt: &impl Print, piece: &str) {
+    let _ = rt.write_all(piece.as_bytes());
+}
+
+// A number, with a space before it.
+fn number(rt: &impl Print, n: u64) {
+    say(rt, " ");
+    let _ = print!(rt; "{n}");
 }
