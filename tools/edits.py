@@ -1,12 +1,12 @@
 """Edits of a crate, and what the prover said of them. Shared by `.ci/contracts`, `.ci/refusals` and `tools/mutate`.
 
 An edit is a file that `rt must-fail` reads: `file:` lines, each for the `old:` and `new:` pairs after it. `rt` passes over other lines,
-so a line `for: FUNCTION: WORDS` says which wrong answer of which public function the pairs after it try, and a line `breaks: LEMMA`
-which lemma has to fail: a claim, or, by the name `FUNCTION_spec`, that a function keeps its promise. In the names of lemmas `-` and `_`
-count as one.
+so a line `for: FUNCTION: WORDS` says which wrong answer of which public function the pairs after it try (several such lines in a row:
+of which functions, where all of them rest on the function that is made wrong), and a line `breaks: LEMMA` which lemma has to fail: a
+claim, or, by the name `FUNCTION_spec`, that a function keeps its promise. In the names of lemmas `-` and `_` count as one.
 """
 import re
-from typing import NamedTuple, Optional
+from typing import NamedTuple
 
 FUNCTION = re.compile(r'^(\s*)(?:pub(?:\(\w+\))? )?(?:extern "C" )?fn (\w+)')
 
@@ -45,12 +45,12 @@ class Wrong(NamedTuple):
 
 
 class Pair(NamedTuple):
-    """One replacement of an edit: the file in its crate, the text as it is and as it is to be, and the wrong answer that it tries."""
+    """One replacement of an edit: the file in its crate, the text as it is and as it is to be, and the wrong answers that it tries."""
 
     file: str
     old: str
     new: str
-    wrong: Optional[Wrong]
+    wrong: tuple
 
 
 class Said(NamedTuple):
@@ -63,18 +63,19 @@ class Said(NamedTuple):
 
 def read_edit(path):
     """The pairs of an edit."""
-    file, old, wrong, pairs = "", "", None, []
+    file, old, wrong, pairs, goes_on = "", "", (), [], False
     for line in path.read_text(encoding="utf-8").split("\n"):
         word, _, rest = line.partition(": ") if line != "new:" else ("new", "", "")
         if word == "file":
-            file, wrong = rest.strip(), None
+            file, wrong = rest.strip(), ()
         elif word == "for":
             function, _, words = rest.partition(": ")
-            wrong = Wrong(function, words)
+            wrong = (*(wrong if goes_on else ()), Wrong(function, words))
         elif word == "old":
             old = rest
         elif word == "new":
             pairs.append(Pair(file, old, rest, wrong))
+        goes_on = word == "for"
     return pairs
 
 
