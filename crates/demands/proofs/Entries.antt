@@ -32,6 +32,10 @@ use Rattle.journal.proofs.reader.Reader.after.Met as reader_after
 use Rattle.journal.proofs.reader.read_on.Met as reader_read_on
 use Rattle.journal.proofs.writing.write.Met as writing-write
 use Rattle.journal.proofs.lines.put_line.Met as lines-put-line
+use Rattle.rules.proofs.U8FromEdition.from.Met as edition-number
+use Rattle.rules.proofs.EditionTryFromU8.try_from.Met as number-edition
+use Rattle.journal.proofs.tags.U8FromTag.from.Met as tag-byte
+use Rattle.journal.proofs.tags.TagTryFromU8.try_from.Met as byte-tag
 use Rattle.journal.proofs.numbers.refusal_no.Met as numbers-refusal-no
 use Rattle.journal.proofs.numbers.refusal_of.Met as numbers-refusal-of
 use Rattle.journal.proofs.numbers.damage_no.Met as numbers-damage-no
@@ -140,6 +144,10 @@ every-entry = record {
   refusal_of = λ M. numbers-refusal-of.met;
   damage_no = λ M. numbers-damage-no.met;
   written_no = λ M. numbers-written-no.met;
+  edition_no = λ M. edition-number.met;
+  edition_by = λ M. number-edition.met;
+  byte_of = λ M. tag-byte.met;
+  tag_of = λ M. byte-tag.met;
   c_start = λ M. coherence-start.met;
   c_load = λ M. coherence-load.met;
   c_store = λ M. coherence-store.met;

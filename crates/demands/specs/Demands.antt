@@ -1,7 +1,7 @@
 -- What the customer asked for, in the customer's words and order: a reader begins here.
 --
--- `EveryEntry` says what each public function promises: Starts and Answers (engine/specs/Promise), Runs (engine/specs/Running), read_at and
--- Puts (journal/specs), looks (engine/specs/Looking), for C Says, StartsByte, Reads, Writes, RunSays and Shows (firmware/specs), and for the bench
+-- `EveryEntry` says what each public function promises: Starts and Answers (engine/specs/Promise), Runs (engine/specs/Running), read_at,
+-- Puts and Decodes (journal/specs), looks (engine/specs/Looking), for C Says, StartsByte, Reads, Writes, RunSays and Shows (firmware/specs), and for the bench
 -- Replays, and its own Reads and Writes (bench/specs). All else is claimed of whatever keeps these promises. What they say is in the rules
 -- (rules/specs), the words of a chassis (words/specs) and the records (journal/specs), each in the paper's words. EventFits and Bytes say of
 -- numbers what the kinds u32 and u8 say of the arguments.
@@ -28,7 +28,7 @@ use Rattle.rules.specs.Table.{
   granted_to,
   filled_to,
 }
-use Rattle.rules.specs.Numbers.{edition_no}
+use Rattle.rules.specs.Numbers.{edition_no, edition_by}
 use Rattle.rules.specs.Chassis.{no_chassis}
 use Rattle.rules.specs.Answers.{refusal_no, refusal_of, value_of, FirstHolds, NoneHolds}
 use Rattle.rules.specs.Formed.{sizes}
@@ -42,6 +42,7 @@ use Rattle.rules.specs.declared.Event.{Event}
 use Rattle.rules.specs.declared.Event.TheVariants.{Load, Store, Drop, Ask, Order, Deliver, Copy, Rejoin}
 use Rattle.journal.specs.Records.{bytes_of}
 use Rattle.journal.specs.Reading.{damage_no, place_after, read_at}
+use Rattle.journal.specs.Tags.{byte_of, Decodes}
 use Rattle.journal.specs.Writing.{Written, no_room, written_no, fits, Puts, PutsUnique}
 use Rattle.journal.specs.Lines.{text_line}
 use Rattle.journal.specs.Claims.{ReadsBack, ReadsOnly, OnlyOne, PaperHolds}
@@ -112,6 +113,14 @@ use Rattle.journal.specs.contracts.writing.write as writing-write
 use Rattle.journal.proofs.writing.write.Symbol as writing-write-code
 use Rattle.journal.specs.contracts.lines.put_line as lines-put-line
 use Rattle.journal.proofs.lines.put_line.Symbol as lines-put-line-code
+use Rattle.rules.specs.contracts.U8FromEdition.from as edition-number
+use Rattle.rules.proofs.U8FromEdition.from.Symbol as edition-number-code
+use Rattle.rules.specs.contracts.EditionTryFromU8.try_from as number-edition
+use Rattle.rules.proofs.EditionTryFromU8.try_from.Symbol as number-edition-code
+use Rattle.journal.specs.contracts.tags.U8FromTag.from as tag-byte
+use Rattle.journal.proofs.tags.U8FromTag.from.Symbol as tag-byte-code
+use Rattle.journal.specs.contracts.tags.TagTryFromU8.try_from as byte-tag
+use Rattle.journal.proofs.tags.TagTryFromU8.try_from.Symbol as byte-tag-code
 use Rattle.journal.specs.contracts.numbers.refusal_no as numbers-refusal-no
 use Rattle.journal.proofs.numbers.refusal_no.Symbol as numbers-refusal-no-code
 use Rattle.journal.specs.contracts.numbers.refusal_of as numbers-refusal-of
@@ -237,6 +246,11 @@ pub record EveryEntry : Type 2 where
   pub refusal_of : Keeps numbers-refusal-of.ended numbers-refusal-of-code.name numbers-refusal-of-code.code (λ κs a r end. r ≡ refusal_of a.0)
   pub damage_no : Keeps numbers-damage-no.ended numbers-damage-no-code.name numbers-damage-no-code.code (λ κs a r end. r ≡ damage_no a.0)
   pub written_no : Keeps numbers-written-no.ended numbers-written-no-code.name numbers-written-no-code.code (λ κs a r end. r ≡ written_no a.0)
+  -- the number of an edition, the byte of a tag, and back
+  pub edition_no : Keeps edition-number.ended edition-number-code.name edition-number-code.code (λ κs a r end. r ≡ edition_no a.0)
+  pub edition_by : Keeps number-edition.ended number-edition-code.name number-edition-code.code (λ κs a r end. r ≡ edition_by a.0)
+  pub byte_of : Keeps tag-byte.ended tag-byte-code.name tag-byte-code.code (λ κs a r end. r ≡ byte_of a.0)
+  pub tag_of : Keeps byte-tag.ended byte-tag-code.name byte-tag-code.code (λ κs a r end. Decodes a.0 r)
   -- the exports for C: n is the number that is answered. The static library firmware_c exports each under its name, with the same contract
   pub c_start : Keeps coherence-start.ended coherence-start-code.name coherence-start-code.code (λ κs a n end. Says (λ r. StartsByte a.1.0 a.1.1.0 a.1.1.1.0 r end.0.now) n)
   pub c_load : Keeps coherence-load.ended coherence-load-code.name coherence-load-code.code (λ κs a n end. Says (λ r. Answers a.0.now (Load a.1.0 a.1.1.0) r a.0.now) n)
