@@ -16,9 +16,8 @@ pub(crate) struct Line<'a> {
 }
 
 impl<'a> Line<'a> {
-    // What a line says, or none where it is empty.
-    pub(crate) fn new(line: &'a [u8]) -> Option<Line<'a>> {
-        let (letter, mut rest) = line.split_first()?;
+    // What a line of a letter and the rest behind it says.
+    pub(crate) fn new(letter: u8, mut rest: &'a [u8]) -> Line<'a> {
         let mut numbers = [0u64; NUMBERS];
         for number in numbers.iter_mut() {
             let Some((value, behind)) = number_in(rest) else {
@@ -27,11 +26,11 @@ impl<'a> Line<'a> {
             *number = value;
             rest = behind;
         }
-        Some(Line {
-            letter: *letter,
+        Line {
+            letter,
             numbers,
             name: rest.get(BEFORE_NAME..).unwrap_or(&[]),
-        })
+        }
     }
 }
 

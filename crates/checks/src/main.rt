@@ -10,6 +10,7 @@ mod play;
 mod report;
 
 use crate::image::fresh;
+use crate::lines::Line;
 use crate::play::{Checks, KEPT};
 use std::io::Read;
 use words::layout::WORDS;
@@ -26,8 +27,8 @@ fn main(rt: HostRuntime) {
     let mut kept = [[0u64; WORDS]; KEPT];
     let mut checks = Checks::new(&mut state, &mut expected, &mut kept);
     for line in script[..length].split(|byte| *byte == b'\n') {
-        if !line.is_empty() {
-            checks.play(&rt, line);
+        if let Some((letter, rest)) = line.split_first() {
+            checks.play(&rt, line, Line::new(*letter, rest));
         }
     }
 }

@@ -43,12 +43,9 @@ impl<'a> Checks<'a> {
 }
 
 impl Checks<'_> {
-    // One line. Letters are bytes here and in `row_of`, where each stands once, beside what it does: an enum would write each of them three
-    // times.
-    pub(crate) fn play(&mut self, rt: &impl Print, line: &[u8]) {
-        let Some(said) = Line::new(line) else {
-            return;
-        };
+    // One line, and what it says. Letters are bytes here and in `row_of`, where each stands once, beside what it does: an enum would write each
+    // of them three times.
+    pub(crate) fn play(&mut self, rt: &impl Print, line: &[u8], said: Line<'_>) {
         let n = &said.numbers;
         match said.letter {
             b'F' => *self.expected = fresh(n[0], n[1], n[2]),

@@ -194,16 +194,8 @@ pub(crate) fn remove<T: Waits>(s: &mut [u64; WORDS], place: u8)
 {
     let end = T::count(s) - 1;
     close_up(s, T::place(place), T::place(end as u8), PLACE_WORDS);
-    free::<T>(s, end as u8);
+    put_at(s, end as u8, T::unused());
     T::set_count(s, end);
-}
-
-// A place is not used any longer.
-fn free<T: Waits>(s: &mut [u64; WORDS], place: u8)
-    requires { place < room }
-    ensures { s.new ≡ put_place T.row_of T.base s.old place T.clear }
-{
-    put_at(s, place, T::unused());
 }
 
 // The words from `from` up to `to`, each taken by the one `width` further.

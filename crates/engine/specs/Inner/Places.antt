@@ -38,6 +38,8 @@ module _ {A : Type 0} where
     pub leaves : (c : Chassis) (w w₁ w₂ w₃ : List ℕ) (a z : ℕ) → w ≡ words c → z + 1 ≡ count_of header w → a ≤ z → z < room
         → w₁ ≡ closing w (place_of base a) (place_of base z - place_of base a) place_words
         → w₂ ≡ put_place row base w₁ z clear → w₃ ≡ set w₂ header z → w₃ ≡ words (left c a)
+    -- a place that is not used is all 0
+    pub zeros : row clear ≡ 0 ∷ 0 ∷ 0 ∷ 0 ∷ 0 ∷ []
     -- the test of a place: its words are those of what is read, and that may be there; or they are those of one that is not used
     pub tests : (w : List ℕ) (i : ℕ) → cond (ltb i (count_of header w))
         (row_is w (place_of base i) (row (read w i)) && ok w (read w i)) (row_is w (place_of base i) (row clear)) ≡ tested w i
@@ -57,6 +59,7 @@ request_places = record {
   in_words = omega arith;
   joins = λ c w w₁ w₂ n x e is h e₁ e₂. push-request c w e x n w₁ w₂ is h e₁ e₂;
   leaves = λ c w w₁ w₂ w₃ a z e is h k e₁ e₂ e₃. remove-request c w e a z w₁ w₂ w₃ is h k e₁ e₂ e₃;
+  zeros = refl;
   tests = λ w i. refl;
 }
 
@@ -75,5 +78,6 @@ message_places = record {
   in_words = omega arith;
   joins = λ c w w₁ w₂ n x e is h e₁ e₂. push-message c w e x n w₁ w₂ is h e₁ e₂;
   leaves = λ c w w₁ w₂ w₃ a z e is h k e₁ e₂ e₃. remove-message c w e a z w₁ w₂ w₃ is h k e₁ e₂ e₃;
+  zeros = refl;
   tests = λ w i. refl;
 }

@@ -10,4 +10,4 @@ close_up-requires g c =
 pub returns : goal.returns
 returns g c = λ k e.
     g.met.T.Waits.laws.leaves k _ _ _ _ _ _ e (omega arith) (omega arith) (omega arith)
-    (rw (c.place.ensures, c.place-2.ensures) at c.close_up.ensures) c.free.ensures c.set_count.ensures
+    (rw (c.place.ensures, c.place-2.ensures) at c.close_up.ensures) (rw c.unused.ensures at c.put_at.ensures) c.set_count.ensures

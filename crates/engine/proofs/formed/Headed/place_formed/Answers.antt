@@ -16,5 +16,5 @@ returns-then-place-count g c =
 
 pub returns : goal.returns
 returns g c =
-    rw (c.row_is-2.ensures, c.row-2.ensures, c.unused.ensures, c.place-p.ensures)
-    (rw (le-ltb _ _ (rw c.count.ensures at c.if-place-count.false)) at (g.met.T.Waits.laws.tests c.args.self.state.now c.args.place))
+    rw (c.row_is-2.ensures, c.place-p.ensures)
+    (rw (le-ltb _ _ (rw c.count.ensures at c.if-place-count.false), g.met.T.Waits.laws.zeros) at (g.met.T.Waits.laws.tests c.args.self.state.now c.args.place))
