@@ -18,7 +18,7 @@ use words::layout::WORDS;
 // How many bytes of a script are played; those behind them are not read.
 const SCRIPT_ROOM: usize = 65536;
 
-// Each line of the script in a row; an empty one says nothing.
+// Each line of the script in a row; an empty one says nothing, and is seen here, so that it costs no call.
 fn main(rt: HostRuntime) {
     let mut script = [0u8; SCRIPT_ROOM];
     let length = read_script(&mut rt.stdin(), &mut script);

@@ -1,5 +1,6 @@
 -- The demands, from the claims below.
 use Rattle.rules.proofs.Unique.{one_answer}
+use Rattle.journal.proofs.EachTag.{decodes-unique}
 use Rattle.journal.proofs.Puts.{puts-unique}
 use Rattle.journal.proofs.Claims.{reads_back, reads_only, only_one}
 use Rattle.journal.proofs.Paper.{paper_holds}
@@ -33,6 +34,7 @@ nothing_second = record {
   event = answers-unique;
   run = runs-unique;
   bytes = puts-unique;
+  tag = decodes-unique;
   c_start = start-says-unique;
   c_event = event-says-unique;
   c_read = reads-unique;

@@ -48,6 +48,7 @@ use Rattle.journal.specs.Lines.{text_line}
 use Rattle.journal.specs.Claims.{ReadsBack, ReadsOnly, OnlyOne, PaperHolds}
 use Rattle.journal.specs.declared.Damage.{Damage}
 use Rattle.journal.specs.declared.Record.{Record}
+use Rattle.journal.specs.declared.tags.Tag.{Tag}
 use Rattle.words.specs.Words.{words, view, formed}
 use Rattle.words.specs.Claims.{ViewWords, AllWords, FormedSays, StartForms, StepForms}
 use Rattle.engine.specs.Promise.{Starts, Answers, StartsUnique, AnswersUnique}
@@ -362,6 +363,7 @@ pub record NothingSecond : Type 1 where
   pub event : AnswersUnique
   pub run : RunsUnique
   pub bytes : PutsUnique
+  pub tag : (b : ℕ) (r r' : Result Tag Damage) → Decodes b r → Decodes b r' → r ≡ r'
   pub c_start : StartSaysUnique
   pub c_event : EventSaysUnique
   pub c_read : ReadsUnique

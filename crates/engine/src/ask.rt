@@ -23,7 +23,7 @@ impl Chassis<'_> {
         self.ask_from(card, block, kind, mask, cell)
     }
 
-    // The cell is there: refusals 5, 6, 4 and 7, in this order.
+    // The cell is there: refusals 5, 6, 4 and 7, in this order. Whole into `ask`.
     #[inline(always)]
     fn ask_from(&mut self, card: u8, block: u8, kind: u8, mask: Mask, cell: Cell) -> Answer
         requires { Ok cell ≡ sought self.old.words.now card block }

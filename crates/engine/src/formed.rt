@@ -84,7 +84,7 @@ fn cell_formed(s: &[u64; WORDS], card: u8, block: u8, cards: u64) -> bool
 }
 
 // The cells of a block that so many cards have cells of: of one that is not there, none. Here and below each is tested with `&`: with `all`,
-// which ends at the first that fails, the compiler tests word by word, and the whole test takes 1.5 to 2.2 times the instructions.
+// which ends at the first that fails, the compiler tests word by word, and the whole test takes 1.5 to 2.4 times the instructions.
 fn cells_formed(s: &[u64; WORDS], block: u8, cards: u64) -> bool
     ensures { result ≡ all most_cards (cell_test s.now cards block) }
 {
